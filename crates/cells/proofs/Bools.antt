@@ -1,0 +1,19 @@
+-- Truth values. Assumes nothing.
+use mathlib.Core.Path.{_≡_, refl, sym, _∙_}
+use mathlib.Core.Bool.{Bool, true, false, _&&_, true≢false}
+
+-- both halves of a test hold
+pub both-true : (a b : Bool) → (a && b) ≡ true → (a ≡ true) × (b ≡ true)
+both-true true true e = (refl, refl)
+both-true true false e = (refl, e)
+both-true false true e = (e, refl)
+both-true false false e = (e, e)
+
+-- a test that does not hold is false
+pub refuted : (t : Bool) → (t ≡ true → ⊥) → t ≡ false
+refuted true h = absurd (h refl)
+refuted false h = refl
+
+-- no test is both
+pub clash : {t : Bool} → t ≡ true → t ≡ false → ⊥
+clash e f = true≢false (sym e ∙ f)

@@ -1,0 +1,150 @@
+-- Corners of cells: a cell is known by its level and its corner, and its corner is where its first voxel stands. Assumes nothing.
+use mathlib.Core.Path.{_≡_, refl, sym, ap, _∙_}
+use mathlib.Core.Bool.{true, _&&_}
+use mathlib.Core.List.{[], _∷_}
+use Prim.Native.Nat.{ℕ, _+_, _-_, _*_, _/_, _%_, _^_, _<_, _≤_}
+use native.Mathlib.Nat.{one-le-pow, eq-of-mul-eq-mul-right, add-sub-cancel-left, div-add-mod', div-lt-iff-lt-mul, add-sub-of-le}
+use lib.Pow.{pow-add}
+use lib.Dec.{leb, ltb, eqb}
+use borrow.Author.Tests.{leb-true, ltb-true, eqb-true}
+use native.Mathlib.Omega.{arith}
+use Rattle.cells.specs.Cell.{level, proper, index, side, start, span}
+use Rattle.cells.specs.Place.{along, number, corner}
+use Rattle.cells.specs.Answer.{given, alone, TooDeep}
+use Rattle.cells.specs.Corners.{NoCell, nowhere, CellAt, onGrid, isCorner, NoCorner, PlaceOf, CodeOf}
+use Rattle.cells.specs.declared.Answer.{Answer}
+use Rattle.cells.proofs.Decisions.{One, one-refuses, one-decided}
+use Rattle.cells.proofs.Power.{pow2-pos}
+use Rattle.cells.proofs.Cells.{proper-bounds, cell-of, level-le}
+use Rattle.cells.proofs.Bools.{both-true}
+use Rattle.cells.proofs.Places.{pick, number-along, number-lt, along-number, along-first}
+
+pub side-pos : (D c : ℕ) → 0 < side D c
+unfolding side
+side-pos D c = one-le-pow (D - level D c) 2 (omega arith)
+
+pub index-lt : (D c : ℕ) → proper D c ≡ true → index D c < 8 ^ level D c
+unfolding index
+index-lt D c p = omega (arith, proper-bounds D c p)
+
+pub code-is : (D c : ℕ) → proper D c ≡ true → c ≡ 8 ^ level D c + index D c
+unfolding index
+code-is D c p = omega (arith, proper-bounds D c p)
+
+-- ---- the cell of level k and index i
+
+pub record At (D k i : ℕ) : Type 0 where
+  pub is-proper : proper D (8 ^ k + i) ≡ true
+  pub is-level : level D (8 ^ k + i) ≡ k
+  pub is-side : side D (8 ^ k + i) ≡ 2 ^ (D - k)
+  pub is-corner : (b : ℕ) → corner b D (8 ^ k + i) ≡ along b k i * 2 ^ (D - k)
+
+pub cell-at : (D k i : ℕ) → k ≤ D → i < 8 ^ k → At D k i
+unfolding index side corner
+cell-at D k i h l =
+    let t = cell-of D k (D - k) i (omega arith) l in
+    let e = t .1 in
+    record {
+      is-proper = t .0;
+      is-level = e;
+      is-side = rw e;
+      is-corner = λ b. rw (e, add-sub-cancel-left (8 ^ k) i);
+    }
+
+-- ---- a level and a corner are of one cell alone
+
+same-along : (b D c d : ℕ) → level D c ≡ level D d → corner b D c ≡ corner b D d → along b (level D c) (index D c) ≡ along b (level D c) (index D d)
+unfolding corner side
+same-along b D c d l e =
+    let e′ : along b (level D c) (index D c) * 2 ^ (D - level D c) ≡ along b (level D c) (index D d) * 2 ^ (D - level D c) = e ∙ rw (← l) refl in
+    eq-of-mul-eq-mul-right (2 ^ (D - level D c)) (one-le-pow (D - level D c) 2 (omega arith)) _ _ e′
+
+pub one-cell : (D c d : ℕ) → proper D c ≡ true → proper D d ≡ true → level D c ≡ level D d → corner 1 D c ≡ corner 1 D d → corner 2 D c ≡ corner 2 D d → corner 4 D c ≡ corner 4 D d → c ≡ d
+one-cell D c d p q l x y z =
+    let k : ℕ = level D c in
+    let ld : 8 ^ level D d ≡ 8 ^ k = ap (λ (n : ℕ). 8 ^ n) (sym l) in
+    let i = number-along k (index D c) (index-lt D c p) in
+    let j = number-along k (index D d) (omega (arith, index-lt D d q)) in
+    let same : index D c ≡ index D d = sym i ∙ rw (same-along 1 D c d l x, same-along 2 D c d l y, same-along 4 D c d l z) j in
+    omega (arith, code-is D c p, code-is D d q)
+
+-- ---- the corner is where the first voxel stands
+
+pub corner-start : (b D c : ℕ) → corner b D c ≡ along b D (start D c)
+unfolding corner side index start span
+corner-start b D c =
+    let k : ℕ = level D c in
+    let e : k + (D - k) ≡ D = omega (arith, level-le D c) in
+    sym (along-first b k (D - k) (c - 8 ^ k)) ∙ ap (λ (m : ℕ). along b m ((c - 8 ^ k) * 8 ^ (D - k))) e
+
+-- ---- from a proper corner and level to its cell
+
+pub record OnGrid (w s x : ℕ) : Type 0 where
+  pub root : x < w
+  pub multiple : x % s ≡ 0
+
+on-grid : (w s x : ℕ) → onGrid w s x ≡ true → OnGrid w s x
+unfolding onGrid
+on-grid w s x e =
+    let t = both-true (ltb x w) (eqb (x % s) 0) e in
+    record { root = ltb-true x w (t .0); multiple = eqb-true (x % s) 0 (t .1) }
+
+pub record IsCorner (D x y z k : ℕ) : Type 0 where
+  pub deep : k ≤ D
+  pub on-x : OnGrid (2 ^ D) (2 ^ (D - k)) x
+  pub on-y : OnGrid (2 ^ D) (2 ^ (D - k)) y
+  pub on-z : OnGrid (2 ^ D) (2 ^ (D - k)) z
+
+pub is-corner : (D x y z k : ℕ) → isCorner D x y z k ≡ true → IsCorner D x y z k
+unfolding isCorner
+is-corner D x y z k e =
+    let g = onGrid (2 ^ D) (2 ^ (D - k)) in
+    let t = both-true (leb k D) (g x && (g y && g z)) e in
+    let u = both-true (g x) (g y && g z) (t .1) in
+    let v = both-true (g y) (g z) (u .1) in
+    record { deep = leb-true k D (t .0); on-x = on-grid _ _ x (u .0); on-y = on-grid _ _ y (v .0); on-z = on-grid _ _ z (v .1) }
+
+-- a coordinate in sides
+module _ (D k x : ℕ) (h : k ≤ D) (g : OnGrid (2 ^ D) (2 ^ (D - k)) x) where
+  in-sides : x / 2 ^ (D - k) < 2 ^ k
+  in-sides =
+      let s : ℕ = 2 ^ (D - k) in
+      let e : 2 ^ k * s ≡ 2 ^ D = sym (pow-add 2 k (D - k)) ∙ ap (λ (n : ℕ). 2 ^ n) (add-sub-of-le h) in
+      div-lt-iff-lt-mul (one-le-pow (D - k) 2 (omega arith)) .1 (omega (arith, g .root))
+
+  from-sides : x / 2 ^ (D - k) * 2 ^ (D - k) ≡ x
+  from-sides = omega (arith, div-add-mod' x (2 ^ (D - k)), g .multiple)
+
+pub cell-of-corner : (D x y z k : ℕ) → isCorner D x y z k ≡ true → CellAt D x y z k (8 ^ k + number k (x / 2 ^ (D - k)) (y / 2 ^ (D - k)) (z / 2 ^ (D - k)))
+cell-of-corner D x y z k e =
+    let g = is-corner D x y z k e in
+    let s : ℕ = 2 ^ (D - k) in
+    let X : ℕ = x / s in
+    let Y : ℕ = y / s in
+    let Z : ℕ = z / s in
+    let t = cell-at D k (number k X Y Z) (g .deep) (number-lt k X Y Z) in
+    let at : (a : ℕ) → a < 3 → along (2 ^ a) k (number k X Y Z) ≡ pick a X Y Z =
+    λ a h. along-number a k X Y Z h (in-sides D k x (g .deep) (g .on-x)) (in-sides D k y (g .deep) (g .on-y)) (in-sides D k z (g .deep) (g .on-z)) in
+    record {
+      is-proper = t .is-proper;
+      is-level = t .is-level;
+      is-x = t .is-corner 1 ∙ ap (λ (n : ℕ). n * s) (at 0 (omega arith)) ∙ from-sides D k x (g .deep) (g .on-x);
+      is-y = t .is-corner 2 ∙ ap (λ (n : ℕ). n * s) (at 1 (omega arith)) ∙ from-sides D k y (g .deep) (g .on-y);
+      is-z = t .is-corner 4 ∙ ap (λ (n : ℕ). n * s) (at 2 (omega arith)) ∙ from-sides D k z (g .deep) (g .on-z);
+    }
+
+-- ---- no second answer
+
+pub one-place : (D c : ℕ) → One (PlaceOf D c)
+one-place D c = one-decided nowhere (TooDeep D ∷ NoCell D c ∷ []) _ (one-refuses, (one-refuses, tt)) (λ r s a b. a ∙ sym b)
+
+module _ (D x y z k : ℕ) where
+  pub one-cell-at : (m n : ℕ) → CellAt D x y z k m → CellAt D x y z k n → m ≡ n
+  one-cell-at m n p q =
+      one-cell D m n (p .is-proper) (q .is-proper) (p .is-level ∙ sym (q .is-level)) (p .is-x ∙ sym (q .is-x)) (p .is-y ∙ sym (q .is-y)) (p .is-z ∙ sym (q .is-z))
+
+  coded-one : One (λ (r : Answer). (m : ℕ) × CellAt D x y z k m × (r ≡ given m))
+  coded-one r s (m, p, a) (n, q, b) = a ∙ ap given (one-cell-at m n p q) ∙ sym b
+
+  pub one-code : One (CodeOf D x y z k)
+  one-code = one-decided alone (TooDeep D ∷ NoCorner D x y z k ∷ []) _ (one-refuses, (one-refuses, tt)) coded-one

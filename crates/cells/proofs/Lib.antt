@@ -1,0 +1,26 @@
+-- The mathematics of cells, from the bottom up:
+-- truth values, powers, tables and whole numbers
+pub mod Bools
+pub mod Power
+pub mod Table
+pub mod Integers
+-- what a table of refusals decides
+pub mod Decisions
+-- a proper code as level, index and levels below: the one view of a cell; the other views from it
+pub mod Cells
+pub mod Levels
+pub mod Words
+pub mod Places
+pub mod CornerLaws
+pub mod Views
+-- document 001: the rules, labels worked out by them, the loop, directions, the neighbour
+pub mod Rules
+pub mod Steps
+pub mod Carries
+pub mod Directions
+pub mod NeighbourLaws
+-- document 000: table 2 and its sums
+pub mod Sums
+-- what follows of the calls, and instances
+pub mod Theorems
+pub mod Instances

@@ -1,0 +1,130 @@
+-- Laws of `along` and `number`: they are inverse to each other, and a coarser cube's are those of the finer one divided.
+-- An axis is a number a below 3: x, y, z. Its bit in a label is 2 ^ a. Assumes nothing.
+use mathlib.Core.Path.{_≡_, refl, sym, ap, _∙_}
+use Prim.Native.Nat.{ℕ, zero, suc, _+_, _-_, _*_, _/_, _%_, _^_, _<_, _≤_, zero-le, suc-le-suc}
+use native.Mathlib.Nat.{pow-zero, mul-one, zero-div, add-zero, add-suc, div-one}
+use native.Mathlib.Omega.{arith}
+use Rattle.cells.specs.Place.{along, number}
+use Rattle.cells.proofs.Power.{pow2-suc, pow8-suc, div-pow}
+
+-- the one of three numbers that belongs to axis a
+abbrev pub pick : {A : Type 0} → ℕ → A → A → A → A
+pick zero x y z = x
+pick (suc zero) x y z = y
+pick (suc (suc a)) x y z = z
+
+-- ---- ranges
+
+pub along-lt : (b n v : ℕ) → along b n v < 2 ^ n
+unfolding along
+along-lt b zero v = suc-le-suc zero-le
+along-lt b (suc n) v = omega (arith, pow2-suc n, along-lt b n (v / 8))
+
+pub number-lt : (n x y z : ℕ) → number n x y z < 8 ^ n
+unfolding number
+number-lt zero x y z = suc-le-suc zero-le
+number-lt (suc n) x y z = omega (arith, pow8-suc n, number-lt n (x / 2) (y / 2) (z / 2))
+
+-- ---- inverse to each other
+
+-- one level: a number's halves and its last label
+pub number-step : (n a b c i j k : ℕ) → i < 2 → j < 2 → k < 2 → number (suc n) (2 * a + i) (2 * b + j) (2 * c + k) ≡ 8 * number n a b c + (i + 2 * j + 4 * k)
+unfolding number
+number-step n a b c i j k hi hj hk =
+    let p : (2 * a + i) / 2 ≡ a = omega arith in
+    let q : (2 * b + j) / 2 ≡ b = omega arith in
+    let r : (2 * c + k) / 2 ≡ c = omega arith in
+    rw (p, q, r) (omega arith)
+
+pub along-step : (b n m w : ℕ) → w < 8 → along b (suc n) (8 * m + w) ≡ 2 * along b n m + w / b % 2
+unfolding along
+along-step b n m w h =
+    let p : (8 * m + w) / 8 ≡ m = omega arith in
+    let q : (8 * m + w) % 8 ≡ w = omega arith in
+    rw (p, q)
+
+pub number-along : (n v : ℕ) → v < 8 ^ n → number n (along 1 n v) (along 2 n v) (along 4 n v) ≡ v
+unfolding number along
+number-along zero v h = let e : 8 ^ 0 ≡ 1 = refl in omega arith
+number-along (suc n) v h =
+    let ih = number-along n (v / 8) (omega (arith, pow8-suc n)) in
+    number-step n (along 1 n (v / 8)) (along 2 n (v / 8)) (along 4 n (v / 8)) (v % 8 / 1 % 2) (v % 8 / 2 % 2) (v % 8 / 4 % 2) (omega arith) (omega arith) (omega arith)
+    ∙ omega (arith, ih)
+
+-- a voxel is known by its coordinates
+pub same-voxel : (n u v : ℕ) → u < 8 ^ n → v < 8 ^ n → ((a : ℕ) → a < 3 → along (2 ^ a) n u ≡ along (2 ^ a) n v) → u ≡ v
+same-voxel n u v hu hv e =
+    let x : along 1 n u ≡ along 1 n v = e 0 (omega arith) in
+    let y : along 2 n u ≡ along 2 n v = e 1 (omega arith) in
+    let z : along 4 n u ≡ along 4 n v = e 2 (omega arith) in
+    sym (number-along n u hu) ∙ rw (x, y, z) (number-along n v hv)
+
+-- a label's bit on an axis is that axis's
+label-bit : (a i j k : ℕ) → a < 3 → i < 2 → j < 2 → k < 2 → (i + 2 * j + 4 * k) / 2 ^ a % 2 ≡ pick a i j k
+label-bit zero i j k h hi hj hk = omega arith
+label-bit (suc zero) i j k h hi hj hk = omega arith
+label-bit (suc (suc zero)) i j k h hi hj hk = omega arith
+label-bit (suc (suc (suc a))) i j k h hi hj hk = absurd (omega arith)
+
+-- halves and last bits, axis by axis
+pick-half : (a x y z : ℕ) → 2 * pick a (x / 2) (y / 2) (z / 2) + pick a (x % 2) (y % 2) (z % 2) ≡ pick a x y z
+pick-half zero x y z = omega arith
+pick-half (suc zero) x y z = omega arith
+pick-half (suc (suc a)) x y z = omega arith
+
+pick-zero : (a x y z : ℕ) → x < 1 → y < 1 → z < 1 → 0 ≡ pick a x y z
+pick-zero zero x y z hx hy hz = omega arith
+pick-zero (suc zero) x y z hx hy hz = omega arith
+pick-zero (suc (suc a)) x y z hx hy hz = omega arith
+
+pub along-number : (a n x y z : ℕ) → a < 3 → x < 2 ^ n → y < 2 ^ n → z < 2 ^ n → along (2 ^ a) n (number n x y z) ≡ pick a x y z
+unfolding number along
+along-number a zero x y z h hx hy hz = let e : 2 ^ 0 ≡ 1 = refl in pick-zero a x y z (omega arith) (omega arith) (omega arith)
+along-number a (suc n) x y z h hx hy hz =
+    let u = pow2-suc n in
+    let ih = along-number a n (x / 2) (y / 2) (z / 2) h (omega arith) (omega arith) (omega arith) in
+    let b = label-bit a (x % 2) (y % 2) (z % 2) h (omega arith) (omega arith) (omega arith) in
+    along-step (2 ^ a) n (number n (x / 2) (y / 2) (z / 2)) (x % 2 + 2 * (y % 2) + 4 * (z % 2)) (omega arith)
+    ∙ omega (arith, ih, b, pick-half a x y z)
+
+-- ---- a coarser cube, of n levels fewer: its cells are the finer one's voxels divided
+
+pub along-div : (b k n v : ℕ) → along b (k + n) v / 2 ^ n ≡ along b k (v / 8 ^ n)
+unfolding along
+along-div b k zero v = simp (add-zero, pow-zero, div-one)
+along-div b k (suc n) v =
+    let half : (2 * along b (k + n) (v / 8) + v % 8 / b % 2) / 2 ≡ along b (k + n) (v / 8) = omega arith in
+    rw (add-suc, div-pow 2 n, half, div-pow 8 n) (along-div b k n (v / 8))
+
+pub number-div : (k n x y z : ℕ) → number (k + n) x y z / 8 ^ n ≡ number k (x / 2 ^ n) (y / 2 ^ n) (z / 2 ^ n)
+unfolding number
+number-div k zero x y z = simp (add-zero, pow-zero, div-one)
+number-div k (suc n) x y z =
+    let eighth : (8 * number (k + n) (x / 2) (y / 2) (z / 2) + (x % 2 + 2 * (y % 2) + 4 * (z % 2))) / 8 ≡ number (k + n) (x / 2) (y / 2) (z / 2) = omega arith in
+    rw (add-suc, div-pow 8 n, eighth, div-pow 2 n x, div-pow 2 n y, div-pow 2 n z) (number-div k n (x / 2) (y / 2) (z / 2))
+
+-- ---- the first voxel of a cell of level k, n levels above the voxels
+
+pub along-first : (b k n i : ℕ) → along b (k + n) (i * 8 ^ n) ≡ along b k i * 2 ^ n
+unfolding along
+along-first b k zero i = simp (add-zero, pow-zero, mul-one)
+along-first b k (suc n) i =
+    let e : i * 8 ^ suc n ≡ 8 * (i * 8 ^ n) + 0 = omega (arith, ap (λ (x : ℕ). i * x) (pow8-suc n)) in
+    let z : 0 / b % 2 ≡ 0 = ap (λ (n : ℕ). n % 2) (zero-div b) in
+    rw (add-suc, e) (along-step b (k + n) (i * 8 ^ n) 0 (omega arith) ∙ omega (arith, z, along-first b k n i, ap (λ (x : ℕ). along b k i * x) (pow2-suc n)))
+
+-- ---- the definitions' step as the code takes it, at n > 0
+
+pub along-rec : (b n v : ℕ) → 0 < n → 2 * along b (n - 1) (v / 8) + v % 8 / b % 2 ≡ along b n v
+unfolding along
+along-rec b zero v h = absurd (omega arith)
+along-rec b (suc n) v h =
+    let e : suc n - 1 ≡ n = omega arith in
+    rw e
+
+pub number-rec : (n x y z : ℕ) → 0 < n → 8 * number (n - 1) (x / 2) (y / 2) (z / 2) + (x % 2 + 2 * (y % 2) + 4 * (z % 2)) ≡ number n x y z
+unfolding number
+number-rec zero x y z h = absurd (omega arith)
+number-rec (suc n) x y z h =
+    let e : suc n - 1 ≡ n = omega arith in
+    rw e

@@ -1,0 +1,111 @@
+-- What follows from the statements of the calls: coordinates and back give the code, a step and the step back give the cell, the root has no neighbour.
+-- Assumes nothing.
+use mathlib.Core.Path.{_≡_, refl, sym, ap, _∙_, subst₂}
+use mathlib.Core.Logic.{inr}
+use mathlib.Core.Bool.{true, false}
+use Prim.Native.Nat.{ℕ, zero, suc, _+_, _-_, _*_, _^_, _<_, _≤_}
+use native.Mathlib.Nat.{mul-le-mul-right, mul-mod-left, add-sub-of-le, add-mul, one-mul, zero-mul}
+use native.Mathlib.Omega.{arith}
+use lib.Pow.{pow-add}
+use borrow.Author.Tests.{le-leb, lt-ltb}
+use lib.IntN.{ℤ, pos, negsuc, negℤ, _+ℤ_, _*ℤ_}
+use Rattle.cells.specs.Cell.{level, proper, index, side}
+use Rattle.cells.specs.Place.{along, corner, Displaced}
+use Rattle.cells.specs.Answer.{given, deepest}
+use Rattle.cells.specs.Corners.{onGrid, isCorner, CodeOf}
+use Rattle.cells.specs.Neighbour.{isStep, isNone, isDirection, Neighbour}
+use Rattle.cells.proofs.Bools.{clash}
+use Rattle.cells.proofs.Decisions.{passes, deep-enough}
+use Rattle.cells.proofs.Cells.{level-le, level-is}
+use Rattle.cells.proofs.Bools.{both-true}
+use Rattle.cells.proofs.CornerLaws.{side-pos}
+use Rattle.cells.proofs.Integers.{above, below, same, add-is, above-times, below-times}
+use Rattle.cells.proofs.NeighbourLaws.{displaced→}
+use Rattle.cells.proofs.Places.{along-lt}
+
+-- ---- the corner of a cell is a proper corner, and gives the cell's code
+
+corner-on-grid : (b D c : ℕ) → onGrid (2 ^ D) (2 ^ (D - level D c)) (corner b D c) ≡ true
+unfolding onGrid corner side
+corner-on-grid b D c =
+    let k : ℕ = level D c in
+    let s : ℕ = 2 ^ (D - k) in
+    let a : ℕ = along b k (index D c) in
+    let e : 2 ^ k * s ≡ 2 ^ D = sym (pow-add 2 k (D - k)) ∙ ap (λ (m : ℕ). 2 ^ m) (add-sub-of-le (level-le D c)) in
+    let top : (a + 1) * s ≤ 2 ^ k * s = mul-le-mul-right s (omega (arith, along-lt b k (index D c))) in
+    let lt : a * s < 2 ^ D = omega (arith, add-mul a 1 s, one-mul s, side-pos D c) in
+    rw (lt-ltb (a * s) (2 ^ D) lt, mul-mod-left a s)
+
+pub there-and-back : (D c : ℕ) → D ≤ deepest → proper D c ≡ true → CodeOf D (corner 1 D c) (corner 2 D c) (corner 4 D c) (level D c) (given c)
+unfolding isCorner
+there-and-back D c h p =
+    let g : isCorner D (corner 1 D c) (corner 2 D c) (corner 4 D c) (level D c) ≡ true =
+    rw (le-leb (level D c) D (level-le D c), corner-on-grid 1 D c, corner-on-grid 2 D c, corner-on-grid 4 D c) in
+    inr (passes (deep-enough h), inr (passes (clash g), (c, record { is-proper = p; is-level = refl; is-x = refl; is-y = refl; is-z = refl }, refl)))
+
+-- ---- the step back
+
+above-negated : (z : ℤ) → above (negℤ z) ≡ below z
+above-negated (pos zero) = refl
+above-negated (pos (suc n)) = refl
+above-negated (negsuc n) = refl
+
+below-negated : (z : ℤ) → below (negℤ z) ≡ above z
+below-negated (pos zero) = refl
+below-negated (pos (suc n)) = refl
+below-negated (negsuc n) = refl
+
+displaced-back : (z : ℤ) (s x y : ℕ) → Displaced (z *ℤ pos s) x y → Displaced (negℤ z *ℤ pos s) y x
+displaced-back z s x y e =
+    let u = add-is (pos x) (z *ℤ pos s) in
+    let p : above (pos x +ℤ z *ℤ pos s) ≡ y = ap above e in
+    let q : below (pos x +ℤ z *ℤ pos s) ≡ 0 = ap below e in
+    let a : above (negℤ z *ℤ pos s) ≡ below z * s = above-times (negℤ z) s ∙ ap (λ (m : ℕ). m * s) (above-negated z) in
+    let b : below (negℤ z *ℤ pos s) ≡ above z * s = below-times (negℤ z) s ∙ ap (λ (m : ℕ). m * s) (below-negated z) in
+    same (pos y +ℤ negℤ z *ℤ pos s) (pos x) (omega (arith, u, p, q, above-times z s, below-times z s, a, b, add-is (pos y) (negℤ z *ℤ pos s)))
+
+pub step-back : (D c m : ℕ) (dx dy dz : ℤ) → proper D c ≡ true → Neighbour D c dx dy dz m → Neighbour D m (negℤ dx) (negℤ dy) (negℤ dz) c
+unfolding side
+step-back D c m dx dy dz p n =
+    let l = n .same-level in
+    record {
+      is-proper = p;
+      same-level = sym l;
+      x = rw l (displaced-back dx (2 ^ (D - level D c)) (corner 1 D c) (corner 1 D m) (n .x));
+      y = rw l (displaced-back dy (2 ^ (D - level D c)) (corner 2 D c) (corner 2 D m) (n .y));
+      z = rw l (displaced-back dz (2 ^ (D - level D c)) (corner 4 D c) (corner 4 D m) (n .z));
+    }
+
+-- ---- the root has no neighbour, at any depth
+
+root-level : (D : ℕ) → level D 1 ≡ 0
+root-level D = level-is D 0 1 (omega arith) (omega arith) (omega arith)
+
+-- every coordinate of the root, and of a cell of its level, is 0: a displacement along an axis is none
+root-still : (b D m : ℕ) (d : ℤ) → level D m ≡ level D 1 → Displaced (d *ℤ pos (side D 1)) (corner b D 1) (corner b D m) → above d ≡ below d
+unfolding along corner
+root-still b D m d l e =
+    let z = root-level D in
+    let c : corner b D 1 ≡ 0 * side D 1 = rw z in
+    let n : corner b D m ≡ 0 * side D 1 = rw (l, z) (omega (arith, zero-mul (side D m), zero-mul (side D 1))) in
+    let f = displaced→ d (side D 1) 0 0 (side-pos D 1) (subst₂ (λ (x y : ℕ). Displaced (d *ℤ pos (side D 1)) x y) c n e) in
+    omega arith
+
+none-still : (z : ℤ) → above z ≡ below z → isNone z ≡ true
+unfolding isNone
+none-still (pos zero) e = refl
+none-still (pos (suc n)) e = absurd (omega arith)
+none-still (negsuc n) e = absurd (omega arith)
+
+pub root-alone : (D m : ℕ) (dx dy dz : ℤ) → isDirection dx dy dz ≡ true → Neighbour D 1 dx dy dz m → ⊥
+unfolding isDirection
+root-alone D m dx dy dz h n =
+    let x = none-still dx (root-still 1 D m dx (n .same-level) (n .x)) in
+    let y = none-still dy (root-still 2 D m dy (n .same-level) (n .y)) in
+    let z = none-still dz (root-still 4 D m dz (n .same-level) (n .z)) in
+    let t = both-true (isStep dx) _ h .1 in
+    let u = both-true (isStep dy) _ t .1 in
+    let v = both-true (isStep dz) _ u .1 in
+    let w : false ≡ true = rw (x, y, z) at v in
+    let f : _≡_ {A = ℕ} 0 1 = cc in
+    omega arith

@@ -1,0 +1,99 @@
+-- Other views of a proper cell, from the one of Cells (level k, index i among the 8 ^ k cells of the level, n levels below):
+-- as a quotient of voxel numbers, and as a cube of coordinates; and the neighbour by its voxels. Assumes nothing.
+use mathlib.Core.Path.{_≡_, sym, ap, _∙_, subst}
+use mathlib.Core.Bool.{true}
+use Prim.Native.Nat.{ℕ, _+_, _-_, _*_, _/_, _%_, _^_, _<_, _≤_}
+use native.Mathlib.Nat.{div-add-mod', mod-lt, add-sub-of-le, add-mul-div-right, div-eq-of-lt, div-lt-iff-lt-mul}
+use lib.IntN.{ℤ, pos, _+ℤ_, _*ℤ_}
+use native.Mathlib.Omega.{arith}
+use lib.Dec.{leb, ltb}
+use lib.Pow.{pow-add}
+use borrow.Author.Tests.{leb-true, ltb-true, le-leb, lt-ltb}
+use Rattle.cells.specs.Cell.{level, proper, index, side, start, span, holds}
+use Rattle.cells.specs.Place.{along, corner, Displaced, Came}
+use Rattle.cells.specs.Neighbour.{Neighbour}
+use Rattle.cells.proofs.Integers.{above, below, add-is, above-times, below-times}
+use Rattle.cells.proofs.NeighbourLaws.{displaced→}
+use Rattle.cells.proofs.Power.{pow8-pos}
+use Rattle.cells.proofs.Cells.{level-le}
+use Rattle.cells.proofs.Bools.{both-true}
+use Rattle.cells.proofs.CornerLaws.{index-lt, side-pos}
+use Rattle.cells.proofs.Places.{along-div, number-along}
+
+module _ (D c : ℕ) (p : proper D c ≡ true) where
+  abbrev k : ℕ
+  k = level D c
+
+  abbrev n : ℕ
+  n = D - level D c
+
+  -- ---- a quotient: the voxels of the cell are those whose first k labels are its own
+  pub quotient : (v : ℕ) → holds D c v ≡ true → v / 8 ^ n ≡ index D c
+  unfolding holds start span index
+  quotient v h =
+      let i : ℕ = c - 8 ^ k in
+      let s : ℕ = 8 ^ n in
+      let t = both-true (leb (i * s) v) (ltb v (i * s + s)) h in
+      let lo : i * s ≤ v = leb-true _ _ (t .0) in
+      let hi : v < i * s + s = ltb-true _ _ (t .1) in
+      let r : ℕ = v - i * s in
+      let e : r + i * s ≡ v = omega arith in
+      let z : r / s ≡ 0 = div-eq-of-lt {n = r} {m = s} (omega arith) in
+      ap (λ (m : ℕ). m / s) (sym e) ∙ add-mul-div-right r i (pow8-pos n) ∙ omega (arith, z)
+
+  pub from-quotient : (v : ℕ) → v / 8 ^ n ≡ index D c → holds D c v ≡ true
+  unfolding holds start span index
+  from-quotient v e =
+      let i : ℕ = c - 8 ^ k in
+      let s : ℕ = 8 ^ n in
+      let d : i * s + v % s ≡ v = ap (λ (m : ℕ). m * s + v % s) (sym e) ∙ div-add-mod' v s in
+      let m = mod-lt v {m = s} (pow8-pos n) in
+      rw (le-leb (i * s) v (omega arith), lt-ltb v (i * s + s) (omega arith))
+
+  -- ---- a cube: its voxels are those whose coordinates, in sides, are the cell's
+  pub cube : (b v : ℕ) → holds D c v ≡ true → along b D v / side D c ≡ along b k (index D c)
+  unfolding side
+  cube b v h =
+      let e : k + n ≡ D = add-sub-of-le (level-le D c) in
+      subst (λ (m : ℕ). along b m v / 2 ^ n ≡ along b k (index D c)) e (along-div b k n v ∙ ap (along b k) (quotient v h))
+
+  pub from-cube : (v : ℕ) → v < 8 ^ D → along 1 D v / side D c ≡ along 1 k (index D c) → along 2 D v / side D c ≡ along 2 k (index D c)
+      → along 4 D v / side D c ≡ along 4 k (index D c) → holds D c v ≡ true
+  unfolding side
+  from-cube v l x y z =
+      let e : k + n ≡ D = add-sub-of-le (level-le D c) in
+      let q : ℕ = v / 8 ^ n in
+      let d : 8 ^ k * 8 ^ n ≡ 8 ^ D = sym (pow-add 8 k n) ∙ ap (λ (m : ℕ). 8 ^ m) e in
+      let w : q < 8 ^ k = div-lt-iff-lt-mul (pow8-pos n) .1 (omega arith) in
+      let at : (b : ℕ) → along b D v / 2 ^ n ≡ along b k q = λ b. subst (λ (m : ℕ). along b m v / 2 ^ n ≡ along b k q) e (along-div b k n v) in
+      let x′ : along 1 k q ≡ along 1 k (index D c) = sym (at 1) ∙ x in
+      let y′ : along 2 k q ≡ along 2 k (index D c) = sym (at 2) ∙ y in
+      let z′ : along 4 k q ≡ along 4 k (index D c) = sym (at 4) ∙ z in
+      from-quotient v (sym (number-along k q w) ∙ rw (x′, y′, z′) (number-along k (index D c) (index-lt D c p)))
+
+-- ---- the neighbour by its voxels: each voxel of the cell, displaced by the cell's side, is one of the neighbour's
+
+-- a coordinate displaced by whole sides, in sides
+in-sides : (z : ℤ) (s x x' : ℕ) → 0 < s → Displaced (z *ℤ pos s) x x' → x / s + above z ≡ x' / s + below z
+in-sides z s x x' h e =
+    let u = add-is (pos x) (z *ℤ pos s) in
+    let p : above (pos x +ℤ z *ℤ pos s) ≡ x' = ap above e in
+    let q : below (pos x +ℤ z *ℤ pos s) ≡ 0 = ap below e in
+    let w : x + above z * s ≡ x' + below z * s = omega (arith, u, p, q, above-times z s, below-times z s) in
+    sym (add-mul-div-right x (above z) h) ∙ ap (λ (m : ℕ). m / s) w ∙ add-mul-div-right x' (below z) h
+
+module _ (D c m : ℕ) (dx dy dz : ℤ) (p : proper D c ≡ true) (next : Neighbour D c dx dy dz m) where
+  -- along one axis
+  beside : (b : ℕ) (d : ℤ) → Displaced (d *ℤ pos (side D c)) (corner b D c) (corner b D m) → (u v : ℕ) → holds D c u ≡ true → Displaced (d *ℤ pos (side D c)) (along b D u) (along b D v)
+      → along b D v / side D m ≡ along b (level D m) (index D m)
+  unfolding corner side
+  beside b d e u v h f =
+      let l = next .same-level in
+      let s : ℕ = side D c in
+      let a = displaced→ d s (along b (level D c) (index D c)) (along b (level D c) (index D m)) (side-pos D c) (rw l at e) in
+      let q = in-sides d s (along b D u) (along b D v) (side-pos D c) f in
+      rw l (omega (arith, a, q, cube D c p b u h))
+
+  pub neighbour-voxels : (u v : ℕ) → holds D c u ≡ true → Came D (dx *ℤ pos (side D c)) (dy *ℤ pos (side D c)) (dz *ℤ pos (side D c)) u v → holds D m v ≡ true
+  neighbour-voxels u v h came =
+      from-cube D m (next .is-proper) v (came .root) (beside 1 dx (next .x) u v h (came .x)) (beside 2 dy (next .y) u v h (came .y)) (beside 4 dz (next .z) u v h (came .z))

@@ -1,0 +1,19 @@
+-- What fits a word of 32 bits at depths up to the greatest, and shifts by three bits a level. Assumes nothing.
+use mathlib.Core.Path.{_≡_, ap, _∙_}
+use Prim.Native.Nat.{ℕ, _*_, _%_, _^_, _≤_, _<_}
+use native.Mathlib.Nat.{one-mul, mod-eq-of-lt, pow-le-pow-right}
+use native.Mathlib.Omega.{arith}
+use Rattle.cells.specs.Answer.{deepest}
+use Rattle.cells.proofs.Power.{pow8-bits}
+
+pub pow2-small : (n : ℕ) → n ≤ deepest → 2 ^ n ≤ 2 ^ deepest
+pow2-small n h = pow-le-pow-right {n = 2} (omega arith) h
+
+pub pow8-small : (n : ℕ) → n ≤ deepest → 8 ^ n ≤ 8 ^ deepest
+pow8-small n h = pow-le-pow-right {n = 8} (omega arith) h
+
+-- a shift of 1 by 3 * k, in a word of w bits
+pub shifted : (w k : ℕ) → 8 ^ k < 2 ^ w → (1 * 2 ^ (3 * k)) % 2 ^ w ≡ 8 ^ k
+shifted w k h =
+    let e : 1 * 2 ^ (3 * k) ≡ 8 ^ k = one-mul (2 ^ (3 * k)) ∙ pow8-bits k in
+    rw e (mod-eq-of-lt h)

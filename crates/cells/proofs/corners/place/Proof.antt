@@ -1,0 +1,82 @@
+-- `cells::corners::place` meets its contract.
+-- Assumes nothing.
+use borrow.Author.Needs.{needs}
+use mathlib.Core.Path.{_≡_, refl, sym, _∙_}
+use mathlib.Core.Logic.{inl, inr}
+use mathlib.Core.Bool.{true}
+use Prim.Native.Nat.{_≤_}
+use native.Mathlib.Omega.{arith}
+use borrow.Author.Tests.{not-true, not-false}
+use Rattle.cells.specs.Answer.{deepest}
+use Rattle.cells.specs.Cell.{proper}
+use Rattle.cells.proofs.Bools.{clash}
+use Rattle.cells.proofs.Decisions.{passes, deep-enough}
+use Rattle.cells.proofs.corners.place.Statement.{statement}
+use Rattle.cells.proofs.corners.place.Tie as tie
+
+-- past the tests
+module _ (c : tie.Else2) where
+  deep : c .before .before .before .args .depth ≤ deepest
+  deep = c .before .before .if1 .left
+
+  is-proper : proper (c .before .before .before .args .depth) (c .before .before .before .args .code) ≡ true
+  is-proper = sym (c .before .is-proper .ensures) ∙ not-false _ (c .if2 .left)
+
+no-corner-requires : tie.Need-no-corner-requires
+no-corner-requires c κs = search needs
+
+returns : tie.Need-returns
+returns c = inl (_, (c .before .if1 .taken, refl), c .no-corner .ensures)
+
+is-proper-requires : tie.Need-is-proper-requires
+is-proper-requires c κs = search needs
+
+no-corner-requires-2 : tie.Need-no-corner-requires-2
+no-corner-requires-2 c κs = search needs
+
+returns-2 : tie.Need-returns-2
+returns-2 c =
+    let p = c .before .before in
+    inr (passes (deep-enough (p .before .if1 .left)), inl (_, (sym (p .is-proper .ensures) ∙ not-true _ (c .before .if2 .taken), refl), c .no-corner2 .ensures))
+
+coordinate-requires : tie.Need-coordinate-requires
+coordinate-requires c κs = let q = is-proper c in (omega arith, deep c, q)
+
+coordinate-requires-2 : tie.Need-coordinate-requires-2
+coordinate-requires-2 c κs = (omega arith, deep (c .before), is-proper (c .before))
+
+coordinate-requires-3 : tie.Need-coordinate-requires-3
+coordinate-requires-3 c κs = (omega arith, deep (c .before .before), is-proper (c .before .before))
+
+level-of-requires : tie.Need-level-of-requires
+level-of-requires c κs = (deep (c .before .before .before), is-proper (c .before .before .before))
+
+success-requires : tie.Need-success-requires
+success-requires c κs = search needs
+
+returns-3 : tie.Need-returns-3
+returns-3 c =
+    let e = c .before .before .before .before .before in
+    inr (
+      passes (deep-enough (deep e)),
+      inr (
+        passes (clash (is-proper e)),
+        rw (c .success .ensures, c .before .level-of .ensures, c .before .before .coordinate3 .ensures, c .before .before .before .coordinate2 .ensures, c .before .before .before .before .coordinate .ensures),
+      ),
+    )
+
+pub place-spec : {M : Type 1} → statement M
+place-spec =
+    tie.close
+    (tie.spec
+    no-corner-requires
+    returns
+    is-proper-requires
+    no-corner-requires-2
+    returns-2
+    coordinate-requires
+    coordinate-requires-2
+    coordinate-requires-3
+    level-of-requires
+    success-requires
+    returns-3)

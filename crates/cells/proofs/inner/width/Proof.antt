@@ -1,0 +1,42 @@
+-- `cells::inner::width` meets its contract: the shift is three times the levels below the cell. Assumes nothing.
+use mathlib.Core.Path.{_≡_, ap, _∙_}
+use mathlib.Core.Bool.{true}
+use Prim.Native.Nat.{ℕ, _+_, _-_, _*_, _%_, _^_, _≤_}
+use native.Mathlib.Omega.{arith}
+use borrow.Author.Needs.{needs}
+use lib.Count.{leadingZeros}
+use Rattle.cells.specs.Answer.{deepest}
+use Rattle.cells.specs.Cell.{level, proper, span}
+use Rattle.cells.proofs.Cells.{level-le}
+use Rattle.cells.proofs.Levels.{leading-proper}
+use Rattle.cells.proofs.Words.{pow8-small, shifted}
+use Rattle.cells.proofs.inner.width.Statement.{statement}
+use Rattle.cells.proofs.inner.width.Tie as tie
+
+-- the leading zeros, with the level's bits, are 31
+zeros : (D c : ℕ) → D ≤ deepest → proper D c ≡ true → (leadingZeros 32 c + 3 * level D c ≡ 31) × (level D c ≤ D)
+zeros D c h p = omega (arith, leading-proper 32 D c (omega arith) p, level-le D c)
+
+shifted-span : (D c : ℕ) → D ≤ deepest → proper D c ≡ true → (1 * 2 ^ (3 * D + leadingZeros 32 c - 31)) % 2 ^ 32 ≡ span D c
+unfolding span
+shifted-span D c h p =
+    ap (λ (n : ℕ). (1 * 2 ^ n) % 2 ^ 32) (omega (arith, zeros D c h p))
+    ∙ shifted 32 (D - level D c) (omega (arith, pow8-small (D - level D c) (omega arith)))
+
+mul-result : tie.Need-mul-result
+mul-result c = search needs
+
+add-result : tie.Need-add-result
+add-result c = omega (arith, zeros (c .args .depth) (c .args .code) (c .pre .0) (c .pre .1))
+
+sub-result : tie.Need-sub-result
+sub-result c = omega (arith, zeros (c .args .depth) (c .args .code) (c .pre .0) (c .pre .1))
+
+shl-result : tie.Need-shl-result
+shl-result c = omega (arith, zeros (c .args .depth) (c .args .code) (c .pre .0) (c .pre .1))
+
+returns : tie.Need-returns
+returns c = shifted-span (c .args .depth) (c .args .code) (c .pre .0) (c .pre .1)
+
+pub width-spec : {M : Type 1} → statement M
+width-spec = tie.close (tie.spec mul-result add-result sub-result shl-result returns)

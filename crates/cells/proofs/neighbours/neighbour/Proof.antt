@@ -1,0 +1,227 @@
+-- `cells::neighbours::neighbour` meets its contract. The loop's invariant is `Progress` of Carries; its measure is the code of the labels that are left.
+-- Assumes nothing.
+use mathlib.Core.Path.{_≡_, refl, sym, ap, _∙_, subst}
+use mathlib.Core.Logic.{inl, inr}
+use mathlib.Core.Bool.{true}
+use Prim.Native.Nat.{ℕ, _+_, _*_, _%_, _^_, _≤_}
+use native.Mathlib.Nat.{mul-le-mul-right}
+use native.Mathlib.Omega.{arith}
+use borrow.Author.Needs.{needs}
+use borrow.Author.Tests.{not-true, not-false}
+use mir.Syntax.{w32}
+use mir.ValLaws.{toZ-ofZ}
+use Rattle.cells.specs.Cell.{level, proper, index}
+use Rattle.cells.specs.Answer.{given, deepest}
+use Rattle.cells.specs.Inner.{Direction}
+use Rattle.cells.specs.Payeur.{carried, stepped}
+use Rattle.cells.proofs.Cells.{level-le}
+use Rattle.cells.proofs.CornerLaws.{code-is, index-lt}
+use Rattle.cells.proofs.Bools.{clash}
+use Rattle.cells.proofs.Decisions.{passes, deep-enough}
+use Rattle.cells.proofs.Words.{pow8-small}
+use Rattle.cells.proofs.Carries.{Progress, begins, ended, turned, room, finished}
+use Rattle.cells.proofs.Steps.{stepped-lt}
+use Rattle.cells.proofs.NeighbourLaws.{found, missing}
+use Rattle.cells.proofs.neighbours.neighbour.Statement.{statement}
+use Rattle.cells.proofs.neighbours.neighbour.Tie as tie
+
+abbrev Inv-loop : tie.InvT-loop
+Inv-loop depth code dx dy dz d carry₀ rest₀ done₀ weight₀ carry rest done weight = Progress (level depth code) (index depth code) d carry rest done weight
+
+abbrev μ-loop : tie.MeasureT-loop
+μ-loop depth code dx dy dz d carry₀ rest₀ done₀ weight₀ carry rest done weight = rest
+
+-- ---- what is known past the tests
+
+module _ (c : tie.After-direction Inv-loop μ-loop) where
+  abbrev s : tie.Start Inv-loop μ-loop
+  s = c .before .before .before .before
+
+  abbrev k : ℕ
+  k = level (s .args .depth) (s .args .code)
+
+  abbrev i : ℕ
+  i = index (s .args .depth) (s .args .code)
+
+  abbrev d : ℕ
+  d = c .direction .result
+
+  deep : s .args .depth ≤ deepest
+  deep = c .before .before .before .if1 .left
+
+  is : proper (s .args .depth) (s .args .code) ≡ true
+  is = sym (c .before .before .is-proper .ensures) ∙ not-false _ (c .before .if2 .left)
+
+  directed : Direction (s .args .dx) (s .args .dy) (s .args .dz) d
+  directed = rw (toZ-ofZ w32 (s .args .dx) (s .fits .dx), toZ-ofZ w32 (s .args .dy) (s .fits .dy), toZ-ofZ w32 (s .args .dz) (s .fits .dz)) at (c .direction .ensures)
+
+  -- 8 ^ k fits with room for a bit
+  small : 8 ^ k ≤ 8 ^ deepest
+  small = pow8-small k (omega (arith, level-le (s .args .depth) (s .args .code), deep))
+
+refusal-requires : tie.Need-refusal-requires Inv-loop μ-loop
+refusal-requires c κs = search needs
+
+returns : tie.Need-returns Inv-loop μ-loop
+returns c = inl (_, (c .before .if1 .taken, refl), c .refusal .ensures)
+
+is-proper-requires : tie.Need-is-proper-requires Inv-loop μ-loop
+is-proper-requires c κs = search needs
+
+refusal-requires-2 : tie.Need-refusal-requires-2 Inv-loop μ-loop
+refusal-requires-2 c κs = search needs
+
+returns-2 : tie.Need-returns-2 Inv-loop μ-loop
+returns-2 c =
+    let p = c .before .before in
+    inr (passes (deep-enough (p .before .if1 .left)), inl (_, (sym (p .is-proper .ensures) ∙ not-true _ (c .before .if2 .taken), refl), c .refusal2 .ensures))
+
+direction-requires : tie.Need-direction-requires Inv-loop μ-loop
+direction-requires c κs = search needs
+
+refusal-requires-3 : tie.Need-refusal-requires-3 Inv-loop μ-loop
+refusal-requires-3 c κs = search needs
+
+returns-3 : tie.Need-returns-3 Inv-loop μ-loop
+returns-3 c =
+    let q = c .before .before in
+    inr (passes (deep-enough (deep q)), inr (passes (clash (is q)), inl (_, (directed q .bad (c .before .if3 .taken), refl), c .refusal3 .ensures)))
+
+loop-holds : tie.Need-loop-holds Inv-loop μ-loop
+loop-holds c =
+    let q = c .before in
+    let a = s q .args in
+    begins (k q) (i q) (d q) (a .code) (code-is (a .depth) (a .code) (is q)) (index-lt (a .depth) (a .code) (is q)) (directed q .small)
+
+refusal-requires-4 : tie.Need-refusal-requires-4 Inv-loop μ-loop
+refusal-requires-4 c κs = search needs
+
+returns-4 : tie.Need-returns-4 Inv-loop μ-loop
+returns-4 c =
+    let l = c .before .before .before in
+    let q = l .before .before in
+    let a = s q .args in
+    let e = ended (k q) (i q) (d q) _ _ _ _ (l .loop .inv) (c .before .if4 .taken) in
+    inr (
+      passes (deep-enough (deep q)),
+      inr (
+        passes (clash (is q)),
+        inr (
+          passes (clash (directed q .good (l .before .if3 .left))),
+          inl (_, (missing (a .depth) (a .code) (is q) (a .dx) (a .dy) (a .dz) (d q) (directed q) (l .before .if3 .left) (λ z. omega (arith, e, z, c .before .before .loop-test .taken)), refl), c .refusal4 .ensures),
+        ),
+      ),
+    )
+
+rule-requires : tie.Need-rule-requires Inv-loop μ-loop
+rule-requires c κs = (omega arith, c .before .before .loop .inv .small)
+
+mul-done : tie.Need-mul-done Inv-loop μ-loop
+mul-done c =
+    let l = c .before .before .before in
+    let q = l .before .before in
+    let r = room (k q) (i q) (d q) _ _ _ _ (l .loop .inv) (c .before .if4 .left) in
+    let w : c .rule .result % 8 * l .loop .weight ≤ 7 * l .loop .weight = mul-le-mul-right (l .loop .weight) (omega arith) in
+    omega (arith, small q, l .loop .inv .low)
+
+add-done : tie.Need-add-done Inv-loop μ-loop
+add-done c =
+    let l = c .before .before .before in
+    let q = l .before .before in
+    let r = room (k q) (i q) (d q) _ _ _ _ (l .loop .inv) (c .before .if4 .left) in
+    let w : c .rule .result % 8 * l .loop .weight ≤ 7 * l .loop .weight = mul-le-mul-right (l .loop .weight) (omega arith) in
+    omega (arith, small q, l .loop .inv .low)
+
+mul-weight : tie.Need-mul-weight Inv-loop μ-loop
+mul-weight c =
+    let l = c .before .before .before in
+    let q = l .before .before in
+    let r = room (k q) (i q) (d q) _ _ _ _ (l .loop .inv) (c .before .if4 .left) in
+    let w : c .rule .result % 8 * l .loop .weight ≤ 7 * l .loop .weight = mul-le-mul-right (l .loop .weight) (omega arith) in
+    omega (arith, small q, l .loop .inv .low)
+
+loop-less : tie.Need-loop-less Inv-loop μ-loop
+loop-less c = omega arith
+
+loop-again : tie.Need-loop-again Inv-loop μ-loop
+loop-again c =
+    let l = c .before .before .before in
+    let q = l .before .before in
+    turned (k q) (i q) (d q) _ _ _ _ (c .rule .result) (l .loop .inv) (c .before .if4 .left) (c .rule .ensures)
+
+-- no carry is left
+worked : (l : tie.At-loop Inv-loop μ-loop) → l .loop .carry ≤ 0
+    → (carried (k (l .before .before)) (i (l .before .before)) (d (l .before .before)) ≡ 0)
+    × (l .loop .rest * l .loop .weight + l .loop .done ≡ 8 ^ k (l .before .before) + stepped (k (l .before .before)) (i (l .before .before)) (d (l .before .before)))
+worked l h =
+    let q = l .before .before in
+    let z : l .loop .carry ≡ 0 = omega arith in
+    finished (k q) (i q) (d q) _ _ _ (subst (λ (n : ℕ). Progress (k q) (i q) (d q) n (l .loop .rest) (l .loop .done) (l .loop .weight)) z (l .loop .inv))
+
+mul-success : tie.Need-mul-success Inv-loop μ-loop
+mul-success c =
+    let l = c .before in
+    let q = l .before .before in
+    omega (arith, worked l (c .loop-test .left), small q, stepped-lt (k q) (i q) (d q))
+
+add-success : tie.Need-add-success Inv-loop μ-loop
+add-success c =
+    let l = c .before in
+    let q = l .before .before in
+    omega (arith, worked l (c .loop-test .left), small q, stepped-lt (k q) (i q) (d q))
+
+cast-success : tie.Need-cast-success Inv-loop μ-loop
+cast-success c =
+    let l = c .before in
+    let q = l .before .before in
+    omega (arith, worked l (c .loop-test .left), small q, stepped-lt (k q) (i q) (d q))
+
+success-requires : tie.Need-success-requires Inv-loop μ-loop
+success-requires c κs = search needs
+
+returns-5 : tie.Need-returns-5 Inv-loop μ-loop
+returns-5 c =
+    let l = c .before .before in
+    let q = l .before .before in
+    let a = s q .args in
+    let w = worked l (c .before .loop-test .left) in
+    let n = found (a .depth) (a .code) (is q) (a .dx) (a .dy) (a .dz) (d q) (directed q) (l .before .if3 .left) (w .0) in
+    inr (
+      passes (deep-enough (deep q)),
+      inr (
+        passes (clash (is q)),
+        inr (
+          passes (clash (directed q .good (l .before .if3 .left))),
+          inr (passes (λ none. none _ n), (_, n, c .success .ensures ∙ ap given (w .1))),
+        ),
+      ),
+    )
+
+pub neighbour-spec : {M : Type 1} → statement M
+neighbour-spec =
+    tie.close
+    (tie.spec
+    Inv-loop
+    μ-loop
+    refusal-requires
+    returns
+    is-proper-requires
+    refusal-requires-2
+    returns-2
+    direction-requires
+    refusal-requires-3
+    returns-3
+    loop-holds
+    refusal-requires-4
+    returns-4
+    rule-requires
+    mul-done
+    add-done
+    mul-weight
+    loop-less
+    loop-again
+    mul-success
+    add-success
+    cast-success
+    success-requires
+    returns-5)

@@ -1,0 +1,44 @@
+-- The answers of document 01, "Numbers a call gives", and how its table decides. Definitions only.
+use mathlib.Core.Path.{_≡_}
+use mathlib.Core.Logic.{_⊎_}
+use mathlib.Core.List.{List, [], _∷_}
+use Prim.Native.Nat.{ℕ, _<_}
+use Rattle.cells.specs.declared.Answer.{Answer}
+
+-- number n, place p, list k
+abbrev pub answer : ℕ → ℕ → ℕ → Answer
+answer n p k = record { number = n; place = p; list = k }
+
+-- success with place p
+abbrev pub given : ℕ → Answer
+given p = answer 0 p 0
+
+-- A test of the table: the answers that it refuses with. Where it has none, it passes.
+abbrev pub Test : Type 1
+Test = Answer → Type 0
+
+-- The tests run in order, and the first that fails decides: the call leaves `refuse a`, the test's answer with every lent byte as it was.
+-- Where all tests pass, P holds of what the call leaves.
+abbrev pub Decided : {R : Type 0} → (Answer → R) → List Test → (R → Type 0) → R → Type 0
+Decided refuse [] P r = P r
+Decided refuse (F ∷ Fs) P r = ((a : Answer) × F a × (r ≡ refuse a)) ⊎ (((a : Answer) → F a → ⊥) × Decided refuse Fs P r)
+
+-- a call that is lent nothing to write leaves its answer alone
+abbrev pub alone : Answer → Answer
+alone a = a
+
+-- a call that is lent a buffer leaves its answer and the buffer: after a refusal the buffer is o, as it was
+abbrev pub keeping : List ℕ → Answer → Answer × List ℕ
+keeping o a = (a, o)
+
+-- the test that refuses with the answer q where C holds
+abbrev pub refuses : Answer → Type 0 → Test
+refuses q C a = C × (a ≡ q)
+
+-- the greatest depth
+abbrev pub deepest : ℕ
+deepest = 10
+
+-- number 1
+abbrev pub TooDeep : ℕ → Test
+TooDeep D = refuses (answer 1 0 0) (deepest < D)

@@ -1,0 +1,15 @@
+// Cells of a root cube by their codes: document 01, "Cells and codes" and "Neighbours".
+// A host calls `corners::place`, `corners::code` and `neighbours::neighbour`; `inner` is for the crates above.
+pub mod corners;
+pub mod inner;
+pub mod neighbours;
+
+// The greatest depth of a root cube.
+pub const DEEPEST: u32 = 10;
+
+// What a call tells: the number of document 01's table (0 is success), the place and the list.
+pub struct Answer {
+    pub number: u32,
+    pub place: u64,
+    pub list: u32,
+}

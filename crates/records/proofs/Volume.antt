@@ -1,0 +1,74 @@
+-- The volume of an ordered list is the number of its black voxels. Assumes nothing.
+use mathlib.Core.Path.{_≡_, sym, ap₂, _∙_}
+use mathlib.Core.Bool.{true, false, not, _&&_, _||_, and-false}
+use mathlib.Core.Logic.{_⊎_, inl, inr}
+use mathlib.Core.List.{List, [], _∷_}
+use Prim.Native.Nat.{ℕ, _+_, _^_, _≤_, _<_}
+use native.Mathlib.Omega.{arith}
+use Rattle.cells.specs.Cell.{proper, start, span, holds}
+use Rattle.records.specs.Count.{count}
+use Rattle.records.specs.Record.{black, Ordered}
+use Rattle.records.specs.Inner.{volume}
+use Rattle.cells.proofs.Power.{le-or-lt}
+use Rattle.cells.proofs.Cells.{within}
+use Rattle.records.proofs.Lists.{black-before, after-cell}
+use Rattle.records.proofs.Counting.{count-same, count-none, count-join, count-less, count-apart, count-interval, count-bijection}
+
+-- one leaf
+pub leaf-volume : (D c : ℕ) → proper D c ≡ true → count (holds D c) (8 ^ D) ≡ span D c
+unfolding holds
+leaf-volume D c p = count-interval (start D c) (start D c + span D c) (8 ^ D) ∙ omega (arith, within D c p)
+
+-- all leaves, wherever the list begins
+pub list-volume : (D from : ℕ) (l : List ℕ) → Ordered D from l → count (black D l) (8 ^ D) ≡ volume D l
+unfolding black volume Ordered
+list-volume D from [] o = count-none (8 ^ D)
+list-volume D from (c ∷ l) (p, f, o) =
+    count-apart (holds D c) (black D l) (8 ^ D) (λ v h. apart v (le-or-lt (start D c + span D c) v))
+    ∙ ap₂ (λ (x y : ℕ). x + y) (leaf-volume D c p) (list-volume D (start D c + span D c) l o)
+  where
+    apart : (v : ℕ) → (start D c + span D c ≤ v) ⊎ (v < start D c + span D c) → (holds D c v && black D l v) ≡ false
+    apart v (inl h) = rw (after-cell D c v h)
+    apart v (inr h) = rw (black-before D (start D c + span D c) l o v h) (and-false (holds D c v))
+
+-- ---- join, intersection and difference, by their black voxels
+
+module _ (D : ℕ) (l m : List ℕ) (ol : Ordered D 0 l) (om : Ordered D 0 m) where
+  -- the volumes of a join j and an intersection i add up to those of the two lists
+  pub join-volume : (j i : List ℕ) → Ordered D 0 j → Ordered D 0 i
+      → ((v : ℕ) → v < 8 ^ D → black D j v ≡ (black D l v || black D m v)) → ((v : ℕ) → v < 8 ^ D → black D i v ≡ (black D l v && black D m v))
+      → volume D j + volume D i ≡ volume D l + volume D m
+  join-volume j i oj oi hj hi =
+      omega (
+        arith,
+        list-volume D 0 l ol,
+        list-volume D 0 m om,
+        list-volume D 0 j oj,
+        list-volume D 0 i oi,
+        count-same (black D j) (λ v. black D l v || black D m v) (8 ^ D) hj,
+        count-same (black D i) (λ v. black D l v && black D m v) (8 ^ D) hi,
+        count-join (black D l) (black D m) (8 ^ D),
+      )
+
+  -- those of a difference d and an intersection i to that of the first
+  pub difference-volume : (d i : List ℕ) → Ordered D 0 d → Ordered D 0 i
+      → ((v : ℕ) → v < 8 ^ D → black D d v ≡ (black D l v && not (black D m v))) → ((v : ℕ) → v < 8 ^ D → black D i v ≡ (black D l v && black D m v))
+      → volume D d + volume D i ≡ volume D l
+  difference-volume d i od oi hd hi =
+      omega (
+        arith,
+        list-volume D 0 l ol,
+        list-volume D 0 d od,
+        list-volume D 0 i oi,
+        count-same (black D d) (λ v. black D l v && not (black D m v)) (8 ^ D) hd,
+        count-same (black D i) (λ v. black D l v && black D m v) (8 ^ D) hi,
+        count-less (black D l) (black D m) (8 ^ D),
+      )
+
+  -- a map that takes the black voxels of l to those of m, and one that takes them back, keep the volume: moves and quarter turns
+  pub moved-volume : (f g : ℕ → ℕ)
+      → ((v : ℕ) → v < 8 ^ D → black D l v ≡ true → (f v < 8 ^ D) × (black D m (f v) ≡ true) × (g (f v) ≡ v))
+      → ((w : ℕ) → w < 8 ^ D → black D m w ≡ true → (g w < 8 ^ D) × (black D l (g w) ≡ true) × (f (g w) ≡ w))
+      → volume D l ≡ volume D m
+  moved-volume f g to back =
+      sym (list-volume D 0 l ol) ∙ count-bijection (black D l) (black D m) (8 ^ D) (8 ^ D) f g to back ∙ list-volume D 0 m om

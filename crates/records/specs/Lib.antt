@@ -1,0 +1,8 @@
+-- What a reader of the public contracts reads, in this order.
+pub mod Record
+pub mod Count
+pub mod Fault
+pub mod Calls
+pub mod Met
+-- the vocabulary of private and inner functions
+pub mod Inner

@@ -1,0 +1,1 @@
+// Records of the ground cut: lists of leaf codes.
