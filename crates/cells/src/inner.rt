@@ -6,6 +6,7 @@ ghost use Prim.Native.Nat.{_+_, _≤_, _<_, _^_};
 ghost use Rattle.cells.specs.Answer.{answer, given, deepest};
 ghost use Rattle.cells.specs.Cell.{level, proper, span, start};
 ghost use Rattle.cells.specs.Place.{along, number};
+ghost use Rattle.cells.specs.Inner.{Parts};
 
 // Number, place and list of a refusal.
 pub fn refusal(number: u32, place: u64, list: u32) -> Answer
@@ -105,4 +106,26 @@ pub fn number_of(n: u32, x: u32, y: u32, z: u32) -> u32
         return 0;
     }
     8 * number_of(n - 1, x / 2, y / 2, z / 2) + (x % 2 + 2 * (y % 2) + 4 * (z % 2))
+}
+
+// A displacement along one axis: up - down, one of them 0.
+pub struct Parted {
+    pub up: u32,
+    pub down: u32,
+}
+
+// A signed number as such a displacement. The difference is taken at 64 bits, where it fits.
+pub fn part(d: i32) -> Parted
+    ensures { λ r. ⌜ Parts d (r .up) (r .down) ⌝ }
+{
+    if 0 <= d {
+        return Parted {
+            up: d as u32,
+            down: 0,
+        };
+    }
+    Parted {
+        up: 0,
+        down: (0 - (d as i64)) as u32,
+    }
 }

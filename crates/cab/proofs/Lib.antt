@@ -1,0 +1,2 @@
+-- What follows of the packed answers.
+pub mod Unique

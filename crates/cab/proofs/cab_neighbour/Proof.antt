@@ -1,0 +1,23 @@
+-- `cab::cab_neighbour` meets its contract: the library's answer, packed. A callee reads a signed argument back from its bits, which is the argument (`toZ-ofZ`).
+-- Assumes nothing.
+use borrow.Author.Needs.{needs}
+use mir.Syntax.{w32}
+use mir.ValLaws.{toZ-ofZ}
+use Rattle.cab.proofs.cab_neighbour.Statement.{statement}
+use Rattle.cab.proofs.cab_neighbour.Tie as tie
+
+neighbour-requires : tie.Need-neighbour-requires
+neighbour-requires c κs = search needs
+
+pack-requires : tie.Need-pack-requires
+pack-requires c κs = search needs
+
+returns : tie.Need-returns
+returns c =
+    let n = c .before in
+    let s = n .before in
+    let a = s .args in
+    (n .neighbour .result, rw (toZ-ofZ w32 (a .dx) (s .fits .dx), toZ-ofZ w32 (a .dy) (s .fits .dy), toZ-ofZ w32 (a .dz) (s .fits .dz)) at (n .neighbour .ensures), c .pack .ensures)
+
+pub cab-neighbour-spec : {M : Type 1} → statement M
+cab-neighbour-spec = tie.close (tie.spec neighbour-requires pack-requires returns)

@@ -1,0 +1,26 @@
+// The calls for the C controller in the cab: on numbers and bytes, each returning number x 2^32 + place.
+use cells::Answer;
+use cells::neighbours::neighbour;
+ghost use mathlib.Core.Path.{_≡_};
+ghost use Rattle.cells.specs.Neighbour.{NeighbourOf};
+ghost use Rattle.cab.specs.Packed.{packed, Packed};
+
+// An answer as one number.
+fn pack(a: Answer) -> u64
+    ensures { λ r. ⌜ r ≡ packed a ⌝ }
+{
+    let number = a.number as u64;
+    let place = a.place;
+    if 4294967295 < place {
+        return number * 4294967296 + 4294967295;
+    }
+    number * 4294967296 + place
+}
+
+// The neighbour address.
+#[no_mangle]
+pub extern "C" fn cab_neighbour(depth: u32, code: u32, dx: i32, dy: i32, dz: i32) -> u64
+    ensures { λ r. ⌜ Packed (NeighbourOf depth code dx dy dz) r ⌝ }
+{
+    pack(neighbour(depth, code, dx, dy, dz))
+}

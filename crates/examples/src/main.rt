@@ -1,0 +1,7 @@
+// Runs the examples of document 01 and prints a line for each: the call and its inputs, then number, place and list, and what comes beside them.
+mod on_cells;
+mod print;
+
+fn main() {
+    on_cells::run();
+}

@@ -1,0 +1,2 @@
+-- Laws of the answer buffer.
+pub mod Words

@@ -1,0 +1,62 @@
+-- `probe::inner::clear` meets its contract. The loop's invariant: the words passed are 0, the rest is as it was. Assumes nothing.
+use mathlib.Core.Path.{_≡_, ap, _∙_}
+use mathlib.Core.List.{List, _++_}
+use Prim.Native.Nat.{ℕ, _≤_, _-_}
+use native.Mathlib.Omega.{arith}
+use borrow.Author.Fill.{fill-none, fill-more}
+use lib.ListN.{length, length-set, replicate, set, drop}
+use Rattle.probe.proofs.Words.{zeros-all}
+use Rattle.probe.proofs.inner.clear.Statement.{statement}
+use Rattle.probe.proofs.inner.clear.Tie as tie
+
+abbrev Inv-loop : tie.InvT-loop
+Inv-loop answer₀ i₀ answer i = (i ≤ length answer₀) × (length answer ≡ length answer₀) × (answer ≡ replicate i 0 ++ drop i answer₀)
+
+abbrev μ-loop : tie.MeasureT-loop
+μ-loop answer₀ i₀ answer i = length answer₀ - i
+
+loop-holds : tie.Need-loop-holds Inv-loop μ-loop
+loop-holds c = (omega arith, omega arith, fill-none _ 0)
+
+mul-answer : tie.Need-mul-answer Inv-loop μ-loop
+mul-answer c = omega arith
+
+slice-write-answer : tie.Need-slice-write-answer Inv-loop μ-loop
+slice-write-answer c = omega arith
+
+add-i : tie.Need-add-i Inv-loop μ-loop
+add-i c = omega arith
+
+loop-less : tie.Need-loop-less Inv-loop μ-loop
+loop-less c = omega arith
+
+loop-again : tie.Need-loop-again Inv-loop μ-loop
+loop-again c =
+    let l = c .before in
+    let o = l .before .args .answer .now in
+    (omega arith, simp length-set (omega arith), ap (λ (x : List ℕ). set x (l .loop .i) 0) (l .loop .inv .2) ∙ fill-more (l .loop .i) 0 o (omega arith))
+
+same-length : tie.Need-same-length Inv-loop μ-loop
+same-length c = omega arith
+
+returns : tie.Need-returns Inv-loop μ-loop
+returns c =
+    let l = c .before in
+    let o = l .before .args .answer .now in
+    let e : l .loop .i ≡ length o = omega arith in
+    l .loop .inv .2 ∙ rw e (zeros-all (length o) o (omega arith))
+
+pub clear-spec : {M : Type 1} → statement M
+clear-spec =
+    tie.close
+    (tie.spec
+    Inv-loop
+    μ-loop
+    loop-holds
+    mul-answer
+    slice-write-answer
+    add-i
+    loop-less
+    loop-again
+    same-length
+    returns)

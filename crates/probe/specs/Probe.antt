@@ -1,0 +1,14 @@
+-- What a probe leaves in its answer buffer. Definitions only.
+use mathlib.Core.Logic.{_⊎_}
+use mathlib.Core.List.{List, _∷_}
+use Prim.Native.Nat.{ℕ, _-_, _<_, _≤_}
+use lib.ListN.{length, replicate}
+use Rattle.cells.specs.declared.Answer.{Answer}
+
+-- the buffer o afterwards: number, place, list, the four numbers beside the place, and 0 in the rest
+abbrev pub told : List ℕ → Answer → ℕ → ℕ → ℕ → ℕ → List ℕ
+told o a x y z k = a .number ∷ a .place ∷ a .list ∷ x ∷ y ∷ z ∷ k ∷ replicate (length o - 7) 0
+
+-- with fewer than 8 words for the answer nothing is done; else the call is made and its answer told
+abbrev pub Probed : List ℕ → Type 0 → Type 0 → Type 0
+Probed o idle busy = ((length o < 8) × idle) ⊎ ((8 ≤ length o) × busy)

@@ -1,0 +1,53 @@
+// The calls of the crate cells.
+use crate::inner::tell;
+use cells::corners::code;
+use cells::corners::place;
+use cells::neighbours::neighbour;
+ghost use mathlib.Core.Path.{_≡_};
+ghost use Rattle.cells.specs.declared.Answer.{Answer};
+ghost use Rattle.cells.specs.declared.corners.Corner.{Corner};
+ghost use Rattle.cells.specs.Corners.{PlaceOf, CodeOf};
+ghost use Rattle.cells.specs.Neighbour.{NeighbourOf};
+ghost use Rattle.probe.specs.Probe.{told, Probed};
+
+#[no_mangle]
+pub extern "C" fn probe_place(depth: u32, code: u32, answer: &mut [u64])
+    ensures { λ _. ⌜ Probed (now (answer .entry)) (now (answer .exit) ≡ now (answer .entry))
+        ((r : Corner) × PlaceOf depth code r × (now (answer .exit) ≡ told (now (answer .entry)) (r .answer) (r .x) (r .y) (r .z) (r .level))) ⌝ }
+{
+    if answer.len() < 8 {
+        return;
+    }
+    let r = place(depth, code);
+    let a = r.answer;
+    tell(answer, a, r.x, r.y, r.z, r.level);
+}
+
+#[no_mangle]
+pub extern "C" fn probe_code(depth: u32, x: u32, y: u32, z: u32, level: u32, answer: &mut [u64])
+    ensures { λ _. ⌜ Probed (now (answer .entry)) (now (answer .exit) ≡ now (answer .entry))
+        ((a : Answer) × CodeOf depth x y z level a × (now (answer .exit) ≡ told (now (answer .entry)) a 0 0 0 0)) ⌝ }
+{
+    if answer.len() < 8 {
+        return;
+    }
+    tell(answer, code(depth, x, y, z, level), 0, 0, 0, 0);
+}
+
+#[no_mangle]
+pub extern "C" fn probe_neighbour(
+    depth: u32,
+    code: u32,
+    dx: i32,
+    dy: i32,
+    dz: i32,
+    answer: &mut [u64],
+)
+    ensures { λ _. ⌜ Probed (now (answer .entry)) (now (answer .exit) ≡ now (answer .entry))
+        ((a : Answer) × NeighbourOf depth code dx dy dz a × (now (answer .exit) ≡ told (now (answer .entry)) a 0 0 0 0)) ⌝ }
+{
+    if answer.len() < 8 {
+        return;
+    }
+    tell(answer, neighbour(depth, code, dx, dy, dz), 0, 0, 0, 0);
+}

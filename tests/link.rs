@@ -1,0 +1,67 @@
+//! The archives' calls, made safe, and their answers read. A slice passes as a pointer and a length.
+
+#[link(name = "probe", kind = "static")]
+extern "C" {
+    fn probe_place(depth: u32, code: u32, answer: *mut u64, len: usize);
+    fn probe_code(depth: u32, x: u32, y: u32, z: u32, level: u32, answer: *mut u64, len: usize);
+    fn probe_neighbour(depth: u32, code: u32, dx: i32, dy: i32, dz: i32, answer: *mut u64, len: usize);
+}
+
+#[link(name = "cab", kind = "static")]
+extern "C" {
+    fn cab_neighbour(depth: u32, code: u32, dx: i32, dy: i32, dz: i32) -> u64;
+}
+
+/// Number, place, list, and what comes beside the place.
+#[derive(Clone, Copy, PartialEq, Eq, Debug)]
+pub struct Answer {
+    pub number: u64,
+    pub place: u64,
+    pub list: u64,
+    pub beside: [u64; 4],
+}
+
+pub fn answer(number: u64, place: u64, list: u64) -> Answer {
+    Answer { number, place, list, beside: [0; 4] }
+}
+
+const GUARD: u64 = 0xa5a5_5a5a_c3c3_3c3c;
+
+/// Calls `f` with an answer buffer of n words between guards, and tells the answer, or what went wrong with the buffer.
+/// With fewer than 8 words nothing may change.
+fn told(n: usize, f: impl FnOnce(*mut u64, usize)) -> Result<Option<Answer>, String> {
+    let mut words = vec![GUARD; n + 8];
+    f(words[4..].as_mut_ptr(), n);
+    if words[..4].iter().chain(&words[4 + n..]).any(|w| *w != GUARD) {
+        return Err("a word beside the answer buffer changed".to_string());
+    }
+    let a = &words[4..4 + n];
+    if n < 8 {
+        if a.iter().any(|w| *w != GUARD) {
+            return Err("a short answer buffer changed".to_string());
+        }
+        return Ok(None);
+    }
+    if a[7..].iter().any(|w| *w != 0) {
+        return Err("the rest of the answer buffer is not 0".to_string());
+    }
+    Ok(Some(Answer { number: a[0], place: a[1], list: a[2], beside: [a[3], a[4], a[5], a[6]] }))
+}
+
+pub type Told = Result<Option<Answer>, String>;
+
+pub fn place(n: usize, depth: u32, code: u32) -> Told {
+    told(n, |p, len| unsafe { probe_place(depth, code, p, len) })
+}
+
+pub fn code(n: usize, depth: u32, x: u32, y: u32, z: u32, level: u32) -> Told {
+    told(n, |p, len| unsafe { probe_code(depth, x, y, z, level, p, len) })
+}
+
+pub fn neighbour(n: usize, depth: u32, code: u32, d: [i32; 3]) -> Told {
+    told(n, |p, len| unsafe { probe_neighbour(depth, code, d[0], d[1], d[2], p, len) })
+}
+
+pub fn packed_neighbour(depth: u32, code: u32, d: [i32; 3]) -> u64 {
+    unsafe { cab_neighbour(depth, code, d[0], d[1], d[2]) }
+}

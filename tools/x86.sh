@@ -1,0 +1,34 @@
+# How the x86-64 programs of this repository are compiled and run, on x86-64 and on Arm. Sourced by ./test, ./demo and tools/*.
+# What is missing is installed from Debian's packages; where that fails, the caller fails.
+
+# the packages of Debian that a command needs
+install_packages() {
+  echo "installing: $*"
+  apt-get update -qq >/dev/null && apt-get install -y -qq --no-install-recommends "$@" >/dev/null
+}
+
+# sets RUSTC, CC and RUN: the compilers for x86-64 and the command before a program's name
+find_compilers() {
+  case $(uname -m) in
+  x86_64)
+    command -v rustc >/dev/null || install_packages rustc || return 1
+    command -v gcc >/dev/null || install_packages gcc libc6-dev || return 1
+    RUSTC="rustc"
+    CC="gcc"
+    RUN=""
+    ;;
+  aarch64)
+    if ! command -v x86_64-linux-gnu-gcc >/dev/null || ! command -v qemu-x86_64 >/dev/null || [ ! -d /usr/lib/rustlib/x86_64-unknown-linux-gnu ]; then
+      dpkg --add-architecture amd64 &&
+        install_packages rustc libstd-rust-dev:amd64 gcc-x86-64-linux-gnu libc6-dev-amd64-cross qemu-user || return 1
+    fi
+    RUSTC="/usr/bin/rustc --target x86_64-unknown-linux-gnu -C linker=x86_64-linux-gnu-gcc -C target-feature=+crt-static"
+    CC="x86_64-linux-gnu-gcc -static"
+    RUN="qemu-x86_64"
+    ;;
+  *)
+    echo "no way to compile for x86-64 on $(uname -m)"
+    return 1
+    ;;
+  esac
+}
