@@ -5,6 +5,22 @@ extern "C" {
     fn probe_place(depth: u32, code: u32, answer: *mut u64, len: usize);
     fn probe_code(depth: u32, x: u32, y: u32, z: u32, level: u32, answer: *mut u64, len: usize);
     fn probe_neighbour(depth: u32, code: u32, dx: i32, dy: i32, dz: i32, answer: *mut u64, len: usize);
+    fn probe_check(depth: u32, list: *const u32, list_len: usize, answer: *mut u64, len: usize);
+    fn probe_volume(depth: u32, list: *const u32, list_len: usize, answer: *mut u64, len: usize);
+    fn probe_lookup(depth: u32, list: *const u32, list_len: usize, x: u32, y: u32, z: u32, answer: *mut u64, len: usize);
+    fn probe_met(
+        depth: u32,
+        list: *const u32,
+        list_len: usize,
+        code: u32,
+        dx: i32,
+        dy: i32,
+        dz: i32,
+        part: *mut u32,
+        part_len: usize,
+        answer: *mut u64,
+        len: usize,
+    );
 }
 
 #[link(name = "cab", kind = "static")]
@@ -64,4 +80,41 @@ pub fn neighbour(n: usize, depth: u32, code: u32, d: [i32; 3]) -> Told {
 
 pub fn packed_neighbour(depth: u32, code: u32, d: [i32; 3]) -> u64 {
     unsafe { cab_neighbour(depth, code, d[0], d[1], d[2]) }
+}
+
+pub fn check(n: usize, depth: u32, list: &[u32]) -> Told {
+    told(n, |p, len| unsafe { probe_check(depth, list.as_ptr(), list.len(), p, len) })
+}
+
+pub fn volume(n: usize, depth: u32, list: &[u32]) -> Told {
+    told(n, |p, len| unsafe { probe_volume(depth, list.as_ptr(), list.len(), p, len) })
+}
+
+pub fn lookup(n: usize, depth: u32, list: &[u32], at: [u32; 3]) -> Told {
+    told(n, |p, len| unsafe { probe_lookup(depth, list.as_ptr(), list.len(), at[0], at[1], at[2], p, len) })
+}
+
+const WORD_GUARD: u32 = 0x5a3c_a5c3;
+
+/// What a call wrote at the front of a buffer of `room` words between guards: the call tells how many words at the front may have changed.
+fn written(room: usize, call: impl FnOnce(*mut u32) -> Result<usize, String>) -> Result<Vec<u32>, String> {
+    let mut words = vec![WORD_GUARD; room + 8];
+    let front = call(words[4..].as_mut_ptr())?.min(room);
+    if words[..4].iter().chain(&words[4 + front..]).any(|w| *w != WORD_GUARD) {
+        return Err("a word beyond what is written changed".to_string());
+    }
+    Ok(words[4..4 + front].to_vec())
+}
+
+/// An answer, and the words that a call wrote.
+pub type Wrote = Result<(Option<Answer>, Vec<u32>), String>;
+
+/// The answer and the codes of the returned part, as many as the room takes.
+pub fn met(n: usize, room: usize, depth: u32, list: &[u32], code: u32, d: [i32; 3]) -> Wrote {
+    let mut found = None;
+    let part = written(room, |out| {
+        found = told(n, |p, len| unsafe { probe_met(depth, list.as_ptr(), list.len(), code, d[0], d[1], d[2], out, room, p, len) })?;
+        Ok(found.map_or(0, |a| a.beside[0] as usize))
+    })?;
+    Ok((found, part))
 }

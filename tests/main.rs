@@ -4,6 +4,7 @@
 //!     outside [SEED [CASES]]     prints the seed, a line for each failure, and at last 'N passed, M failed'
 mod cells;
 mod link;
+mod lists;
 mod model;
 mod run;
 
@@ -16,6 +17,7 @@ fn main() {
     println!("seed {seed}, {cases} random cases a group");
     let mut run = Run::new(seed, cases);
     cells::all(&mut run);
+    lists::all(&mut run);
     println!("{} passed, {} failed", run.passed, run.failed);
     if run.failed > 0 || run.passed == 0 {
         std::process::exit(1);

@@ -95,3 +95,141 @@ pub fn neighbour_of(depth: u32, from: u32, d: [i32; 3]) -> Answer {
 pub fn packed(a: Answer) -> u64 {
     (a.number << 32) + a.place.min(u32::MAX as u64)
 }
+
+// ---- lists
+
+/// A cell's voxels as an interval of voxel numbers: start and end.
+pub fn interval(depth: u32, code: u32) -> Option<(u64, u64)> {
+    let path = labels(depth, code)?;
+    let span = 1u64 << (3 * (depth - path.len() as u32));
+    let start = path.iter().fold(0, |v, l| v * 8 + *l as u64) * span;
+    Some((start, start + span))
+}
+
+/// The first fault of a list: its number and its index.
+pub fn fault(depth: u32, list: &[u32]) -> Option<(u64, usize)> {
+    for i in 0..list.len() {
+        let (start, _) = match interval(depth, list[i]) {
+            None => return Some((2, i)),
+            Some(x) => x,
+        };
+        // the leaves before this one are proper
+        if i > 0 && start < interval(depth, list[i - 1]).unwrap().1 {
+            return Some((3, i));
+        }
+        if i >= 7 && list[i - 7] % 8 == 0 && (0..8).all(|j| list[i - 7 + j as usize] == list[i - 7] + j) {
+            return Some((4, i));
+        }
+    }
+    None
+}
+
+/// The refusals 1 to 4 of a call on lists, the first list before the second.
+pub fn refusal(depth: u32, lists: &[&[u32]]) -> Option<Answer> {
+    if depth > DEEPEST {
+        return Some(answer(1, 0, 0));
+    }
+    for (k, list) in lists.iter().enumerate() {
+        if let Some((number, place)) = fault(depth, list) {
+            return Some(answer(number, place as u64, k as u64 + 1));
+        }
+    }
+    None
+}
+
+/// A set of voxels as rising runs [start, end) of voxel numbers that neither overlap nor touch.
+pub type Runs = Vec<(u64, u64)>;
+
+/// The voxels of some intervals, in any order, overlapping or not.
+pub fn union(mut pieces: Vec<(u64, u64)>) -> Runs {
+    pieces.sort();
+    let mut runs: Runs = Vec::new();
+    for (start, end) in pieces {
+        match runs.last_mut() {
+            Some(last) if start <= last.1 => last.1 = last.1.max(end),
+            _ => runs.push((start, end)),
+        }
+    }
+    runs
+}
+
+/// The black voxels of a list of proper codes.
+pub fn black(depth: u32, list: &[u32]) -> Runs {
+    union(list.iter().map(|c| interval(depth, *c).unwrap()).collect())
+}
+
+pub fn has(runs: &Runs, v: u64) -> bool {
+    let i = runs.partition_point(|r| r.1 <= v);
+    i < runs.len() && runs[i].0 <= v
+}
+
+pub fn volume(runs: &Runs) -> u64 {
+    runs.iter().map(|r| r.1 - r.0).sum()
+}
+
+/// The good list of a set of voxels, from the root down: a cell that is all black is a leaf, one that is partly black goes by its children.
+pub fn good_list(depth: u32, runs: &Runs) -> Vec<u32> {
+    fn below(runs: &[(u64, u64)], code: u32, start: u64, span: u64, out: &mut Vec<u32>) {
+        let from = runs.partition_point(|r| r.1 <= start);
+        let to = runs.partition_point(|r| r.0 < start + span);
+        let met = &runs[from..to];
+        if met.is_empty() {
+            return;
+        }
+        if met[0].0 <= start && start + span <= met[0].1 {
+            out.push(code);
+            return;
+        }
+        for child in 0..8 {
+            below(met, code * 8 + child, start + child as u64 * (span / 8), span / 8, out);
+        }
+    }
+    let mut out = Vec::new();
+    below(runs, 1, 0, 1 << (3 * depth), &mut out);
+    out
+}
+
+pub fn check_of(depth: u32, list: &[u32]) -> Answer {
+    refusal(depth, &[list]).unwrap_or(answer(0, list.len() as u64, 0))
+}
+
+pub fn volume_of(depth: u32, list: &[u32]) -> Answer {
+    refusal(depth, &[list]).unwrap_or_else(|| answer(0, volume(&black(depth, list)), 0))
+}
+
+/// The voxel number of coordinates in the root.
+pub fn number(depth: u32, at: [u32; 3]) -> u64 {
+    interval(depth, code(depth, Cell { corner: at, level: depth })).unwrap().0
+}
+
+pub fn lookup_of(depth: u32, list: &[u32], at: [u32; 3]) -> Answer {
+    if let Some(a) = refusal(depth, &[list]) {
+        return a;
+    }
+    if at.iter().any(|x| *x >= 1 << depth) {
+        return answer(6, 0, 0);
+    }
+    answer(0, has(&black(depth, list), number(depth, at)) as u64, 0)
+}
+
+/// The leaves met in the neighbour cell: the companion's answer, and the part as its range of indices.
+pub fn met_of(depth: u32, list: &[u32], from: u32, d: [i32; 3]) -> (Answer, std::ops::Range<usize>) {
+    if let Some(a) = refusal(depth, &[list]) {
+        return (a, 0..0);
+    }
+    let a = neighbour_of(depth, from, d);
+    if a.number != 0 {
+        return (a, 0..0);
+    }
+    let (start, end) = interval(depth, a.place as u32).unwrap();
+    let spans: Vec<(u64, u64)> = list.iter().map(|c| interval(depth, *c).unwrap()).collect();
+    let met: Vec<usize> = (0..list.len()).filter(|i| spans[*i].0 < end && start < spans[*i].1).collect();
+    let part = match met.first() {
+        Some(first) => *first..*first + met.len(),
+        None => {
+            let before = spans.iter().filter(|s| s.0 < start).count();
+            before..before
+        }
+    };
+    (answer(0, part.start as u64, 0), part)
+}

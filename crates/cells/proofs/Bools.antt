@@ -1,6 +1,7 @@
 -- Truth values. Assumes nothing.
 use mathlib.Core.Path.{_≡_, refl, sym, _∙_}
 use mathlib.Core.Bool.{Bool, true, false, _&&_, true≢false}
+use mathlib.Core.Logic.{_↔_}
 
 -- both halves of a test hold
 pub both-true : (a b : Bool) → (a && b) ≡ true → (a ≡ true) × (b ≡ true)
@@ -17,3 +18,9 @@ refuted false h = refl
 -- no test is both
 pub clash : {t : Bool} → t ≡ true → t ≡ false → ⊥
 clash e f = true≢false (sym e ∙ f)
+
+-- two tests that hold together are one
+pub same-truth : (s t : Bool) → (s ≡ true) ↔ (t ≡ true) → s ≡ t
+same-truth true t h = sym (h .0 refl)
+same-truth false true h = h .1 refl
+same-truth false false h = refl

@@ -1,10 +1,10 @@
 -- How a row of tests decides, and how it is met: where each test refuses with one answer at most and one thing at most holds past them, no second answer fits. Assumes nothing.
-use mathlib.Core.Path.{_≡_, sym, ap, _∙_}
+use mathlib.Core.Path.{_≡_, sym, ap, _∙_, subst⁻¹}
 use mathlib.Core.Logic.{inl, inr}
 use mathlib.Core.List.{List, [], _∷_}
 use Prim.Native.Nat.{ℕ, _≤_, _<_}
 use native.Mathlib.Omega.{arith}
-use Rattle.cells.specs.Answer.{Test, Decided, refuses, deepest}
+use Rattle.cells.specs.Answer.{Test, Decided, alone, refuses, deepest}
 use Rattle.cells.specs.declared.Answer.{Answer}
 
 -- at most one thing has P
@@ -33,3 +33,44 @@ passes n a t = n (t .0)
 
 pub deep-enough : {D : ℕ} → D ≤ deepest → deepest < D → ⊥
 deep-enough h g = omega arith
+
+-- ---- from one row's outcome to another's
+
+-- past a test that passes
+pub decided-past : {R : Type 0} (refuse : Answer → R) (F : Test) (Fs : List Test) (P : R → Type 0) (r : R) → ((a : Answer) → F a → ⊥) → Decided refuse (F ∷ Fs) P r → Decided refuse Fs P r
+decided-past refuse F Fs P r none (inl (a, f, e)) = absurd (none a f)
+decided-past refuse F Fs P r none (inr (_, d)) = d
+
+-- a part of what a call leaves
+pub decided-map : {R S : Type 0} (f : R → S) (refuse : Answer → R) (refuse′ : Answer → S) (Fs : List Test) (P : R → Type 0) (Q : S → Type 0) (r : R)
+    → ((a : Answer) → f (refuse a) ≡ refuse′ a) → (P r → Q (f r)) → Decided refuse Fs P r → Decided refuse′ Fs Q (f r)
+decided-map f refuse refuse′ [] P Q r same to d = to d
+decided-map f refuse refuse′ (F ∷ Fs) P Q r same to (inl (a, t, e)) = inl (a, t, ap f e ∙ same a)
+decided-map f refuse refuse′ (F ∷ Fs) P Q r same to (inr (n, d)) = inr (n, decided-map f refuse refuse′ Fs P Q r same to d)
+
+-- what holds of every refusal, and of all that has P, holds
+pub decided-all : {R : Type 0} (refuse : Answer → R) (Fs : List Test) (P Q : R → Type 0) (r : R) → ((a : Answer) → Q (refuse a)) → (P r → Q r) → Decided refuse Fs P r → Q r
+decided-all refuse [] P Q r refused to d = to d
+decided-all refuse (F ∷ Fs) P Q r refused to (inl (a, t, e)) = subst⁻¹ Q e (refused a)
+decided-all refuse (F ∷ Fs) P Q r refused to (inr (n, d)) = decided-all refuse Fs P Q r refused to d
+
+-- each test of a row refuses with a number that is not 0
+abbrev pub Numbered : List Test → Type 0
+Numbered [] = Unit {0}
+Numbered (F ∷ Fs) = ((a : Answer) → F a → a .number ≡ 0 → ⊥) × Numbered Fs
+
+pub refuses-numbered : {q : Answer} {C : Type 0} → (q .number ≡ 0 → ⊥) → (a : Answer) → refuses q C a → a .number ≡ 0 → ⊥
+refuses-numbered n a (_, e) z = n (ap (λ (x : Answer). x .number) (sym e) ∙ z)
+
+-- so number 0 says that each test passes: what P gives decides another row of the same tests
+pub decided-on : {S : Type 0} (refuse : Answer → S) (Fs : List Test) (P : Answer → Type 0) (Q : S → Type 0) (r : Answer) (s : S)
+    → Numbered Fs → r .number ≡ 0 → (P r → Q s) → Decided alone Fs P r → Decided refuse Fs Q s
+decided-on refuse [] P Q r s of-none z to d = to d
+decided-on refuse (F ∷ Fs) P Q r s (of-f, of-fs) z to (inl (a, t, e)) = absurd (of-f a t (ap (λ (x : Answer). x .number) (sym e) ∙ z))
+decided-on refuse (F ∷ Fs) P Q r s (of-f, of-fs) z to (inr (n, d)) = inr (n, decided-on refuse Fs P Q r s of-fs z to d)
+
+-- and that P holds
+pub decided-holds : (Fs : List Test) (P : Answer → Type 0) (r : Answer) → Numbered Fs → r .number ≡ 0 → Decided alone Fs P r → P r
+decided-holds [] P r of-none z d = d
+decided-holds (F ∷ Fs) P r (of-f, of-fs) z (inl (a, t, e)) = absurd (of-f a t (ap (λ (x : Answer). x .number) (sym e) ∙ z))
+decided-holds (F ∷ Fs) P r (of-f, of-fs) z (inr (n, d)) = decided-holds Fs P r of-fs z d

@@ -24,6 +24,29 @@ pub fn signed(d: i32) {
     number(p.up as u64);
 }
 
+// The code at index i of a list: a space before all but the first.
+fn item(i: usize, code: u32) {
+    if 0 < i {
+        text(b" ");
+    }
+    io::print_decimal(STDOUT_FILENO, code as u64);
+}
+
+fn items(list: &[u32]) {
+    let mut i: usize = 0;
+    while i < list.len() {
+        item(i, list[i]);
+        i += 1;
+    }
+}
+
+// The codes of a list, in brackets.
+pub fn codes(list: &[u32]) {
+    text(b" [");
+    items(list);
+    text(b"]");
+}
+
 // Number, place and list, after a colon.
 pub fn answer(a: Answer) {
     text(b":");

@@ -1,10 +1,11 @@
--- Words of an answer buffer: all 0, then the first seven told. Assumes nothing.
+-- Words of an answer buffer: all 0, then the first seven told; and codes copied to a buffer's front. Assumes nothing.
 use mathlib.Core.Path.{_≡_, refl, sym, ap, _∙_, subst}
 use mathlib.Core.List.{List, [], _∷_, _++_}
-use Prim.Native.Nat.{ℕ, zero, suc, _+_, _-_, _≤_}
+use Prim.Native.Nat.{ℕ, zero, suc, _+_, _-_, _≤_, _<_}
 use native.Mathlib.Omega.{arith}
 use native.Mathlib.Nat.{le-of-suc-le-suc}
-use lib.ListN.{length, replicate, set, drop}
+use native.Mathlib.Numerals.{add-one}
+use lib.ListN.{length, replicate, set, take, drop, getD}
 
 -- filled to the end, nothing of the buffer is left
 pub zeros-all : (i : ℕ) (o : List ℕ) → length o ≤ i → replicate (length o) 0 ++ drop i o ≡ replicate (length o) 0
@@ -22,3 +23,17 @@ told-over n a b c d e f g h =
   where
     all : suc (suc (suc (suc (suc (suc (suc (n - 7))))))) ≡ n
     all = omega arith
+
+-- ---- codes copied one by one
+
+pub copied-none : (l o : List ℕ) → o ≡ take 0 l ++ drop 0 o
+copied-none l o = refl
+
+pub copied-more : (i : ℕ) (l o : List ℕ) → i < length l → i < length o → set (take i l ++ drop i o) i (getD l i 0) ≡ take (i + 1) l ++ drop (i + 1) o
+copied-more i l o h k = rw add-one (suc-more i l o h k)
+  where
+    suc-more : (i : ℕ) (l o : List ℕ) → i < length l → i < length o → set (take i l ++ drop i o) i (getD l i 0) ≡ take (suc i) l ++ drop (suc i) o
+    suc-more i [] o h k = absurd (omega arith)
+    suc-more i (x ∷ l) [] h k = absurd (omega arith)
+    suc-more zero (x ∷ l) (y ∷ o) h k = refl
+    suc-more (suc i) (x ∷ l) (y ∷ o) h k = ap (λ (t : List ℕ). x ∷ t) (suc-more i l o (le-of-suc-le-suc h) (le-of-suc-le-suc k))

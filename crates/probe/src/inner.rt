@@ -16,7 +16,7 @@ fn clear(answer: &mut [u64])
 }
 
 // The answer, the four numbers beside its place, and 0 in the rest.
-pub fn tell(answer: &mut [u64], a: Answer, x: u32, y: u32, z: u32, level: u32)
+pub fn tell(answer: &mut [u64], a: Answer, x: u64, y: u64, z: u64, level: u64)
     requires { ⌜ 8 ≤ length (now answer) ⌝ }
     ensures { λ _. ⌜ now (answer .exit) ≡ told (now (answer .entry)) a x y z level ⌝ }
 {
@@ -24,8 +24,8 @@ pub fn tell(answer: &mut [u64], a: Answer, x: u32, y: u32, z: u32, level: u32)
     answer[0] = a.number as u64;
     answer[1] = a.place;
     answer[2] = a.list as u64;
-    answer[3] = x as u64;
-    answer[4] = y as u64;
-    answer[5] = z as u64;
-    answer[6] = level as u64;
+    answer[3] = x;
+    answer[4] = y;
+    answer[5] = z;
+    answer[6] = level;
 }

@@ -5,11 +5,19 @@ pub mod Maximal
 pub mod Leaves
 -- each set has one, and how many leaves it can have
 pub mod Fill
+pub mod OneList
 pub mod Most
--- a list is good just where no index has a fault
+-- a list is good just where no index has a fault; the walk that finds the first
+pub mod First
 pub mod Fault
+pub mod Walks
 -- counts of voxels; the volume
 pub mod Counting
 pub mod Volume
--- the leaves that meet a cell stand together
+-- the leaves that meet a cell stand together; what the search finds
 pub mod Part
+pub mod Search
+-- what follows of the calls, and instances
+pub mod CallLaws
+pub mod MetLaws
+pub mod Instances

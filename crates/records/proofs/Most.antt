@@ -7,6 +7,7 @@ use Prim.Native.Nat.{ℕ, zero, suc, _+_, _-_, _*_, _^_, _≤_, _<_, zero-le}
 use native.Mathlib.Nat.{le-refl}
 use native.Mathlib.Omega.{arith}
 use lib.ListN.{length, length-append}
+use Rattle.cells.specs.Answer.{deepest}
 use Rattle.cells.specs.Cell.{start, span}
 use Rattle.records.specs.Record.{black, Good}
 use Rattle.records.specs.Fault.{allFrom}
@@ -73,3 +74,7 @@ few D P (suc n) c s t = go n t (λ j h. few D P n (8 * c + j) (s + j * 8 ^ n) (a
 pub most-leaves : (D : ℕ) (l : List ℕ) → Good D l → length l ≤ most D
 unfolding goodList
 most-leaves D l g = rw (good-list-is D (black D l) l g (λ v h. refl)) (few D (black D l) D 1 0 (root D))
+
+-- at the greatest depth
+pub most-at-deepest : (l : List ℕ) → Good deepest l → length l ≤ 939524096
+most-at-deepest l g = most-leaves deepest l g

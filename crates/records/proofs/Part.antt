@@ -1,118 +1,94 @@
--- The leaves of an ordered list that meet a cell stand together: from the first that does not end before the cell, to the first that starts after it.
--- Assumes nothing.
+-- The leaves of an ordered list that meet a cell stand together, and the part of them is known by its leaves and, if it has none, by its place. Assumes nothing.
 use mathlib.Core.Path.{_≡_}
-use mathlib.Core.Bool.{true}
 use mathlib.Core.Logic.{_⊎_, inl, inr, _↔_}
-use mathlib.Core.List.{List, [], _∷_}
-use Prim.Native.Nat.{ℕ, zero, suc, _+_, _≤_, _<_, max}
-use native.Mathlib.Nat.{le-of-suc-le-suc, not-suc-le-zero}
+use mathlib.Core.List.{List}
+use Prim.Native.Nat.{ℕ, _+_, _-_, _≤_, _<_, max}
+use native.Mathlib.Nat.{le-refl, le-antisymm}
 use native.Mathlib.Omega.{arith}
 use lib.ListN.{length, getD}
-use borrow.Author.Tests.{le-leb, lt-ltb, lt-leb, le-ltb}
-use Rattle.cells.specs.Cell.{start, span, holds}
+use Rattle.cells.specs.Cell.{start, span}
 use Rattle.records.specs.Record.{Ordered}
-use Rattle.records.specs.Inner.{ended, begun}
+use Rattle.records.specs.Met.{Meets, MetPart}
 use Rattle.cells.proofs.Power.{le-or-lt}
 use Rattle.cells.proofs.Cells.{span-pos}
 use Rattle.records.proofs.Lists.{holds-true, held}
-use Rattle.records.proofs.Leaves.{member}
-use Rattle.records.proofs.Fault.{member-at}
+use Rattle.records.proofs.Fault.{end, in-order}
 
--- ---- the two counts, by their first leaf
-
-ended-one : (D x c : ℕ) (l : List ℕ) → start D c + span D c ≤ x → ended D x (c ∷ l) ≡ suc (ended D x l)
-unfolding ended
-ended-one D x c l h = rw (le-leb (start D c + span D c) x h, ended)
-
-ended-none : (D x c : ℕ) (l : List ℕ) → x < start D c + span D c → ended D x (c ∷ l) ≡ 0
-unfolding ended
-ended-none D x c l h = rw (lt-leb (start D c + span D c) x h, ended)
-
-begun-one : (D x c : ℕ) (l : List ℕ) → start D c < x → begun D x (c ∷ l) ≡ suc (begun D x l)
-unfolding begun
-begun-one D x c l h = rw (lt-ltb (start D c) x h, begun)
-
-begun-none : (D x c : ℕ) (l : List ℕ) → x ≤ start D c → begun D x (c ∷ l) ≡ 0
-unfolding begun
-begun-none D x c l h = rw (le-ltb (start D c) x h, begun)
-
--- ---- and by their indices
-
-pub ended-at : (D from : ℕ) (l : List ℕ) → Ordered D from l → (x i : ℕ) → i < length l → (start D (getD l i 0) + span D (getD l i 0) ≤ x) ↔ (i < ended D x l)
-unfolding Ordered
-ended-at D from [] o x i h = absurd (not-suc-le-zero h)
-ended-at D from (c ∷ l) (p, f, o) x zero h = go (le-or-lt (start D c + span D c) x)
+-- two cells meet just where neither ends before the other begins
+pub meets-iff : (D c m : ℕ) → Meets D c m ↔ ((start D m < end D c) × (start D c < end D m))
+meets-iff D c m = (to, back)
   where
-    go : (start D c + span D c ≤ x) ⊎ (x < start D c + span D c) → (start D c + span D c ≤ x) ↔ (0 < ended D x (c ∷ l))
-    go (inl k) = (λ _. omega (arith, ended-one D x c l k), λ _. k)
-    go (inr k) = (λ b. omega arith, λ b. omega (arith, ended-none D x c l k))
-ended-at D from (c ∷ l) (p, f, o) x (suc i) h = go (ended-at D (start D c + span D c) l o x i (le-of-suc-le-suc h)) (le-or-lt (start D c + span D c) x)
+    to : Meets D c m → (start D m < end D c) × (start D c < end D m)
+    to (v, h, k) = let a = holds-true D c v h in let b = holds-true D m v k in omega arith
+
+    back : (start D m < end D c) × (start D c < end D m) → Meets D c m
+    back (h, k) =
+        let a = span-pos D c in
+        let b = span-pos D m in
+        (max (start D c) (start D m), held D c _ (omega arith) (omega arith), held D m _ (omega arith) (omega arith))
+
+-- in an ordered list the starts and the ends rise
+module _ (D : ℕ) (l : List ℕ) (o : Ordered D 0 l) (i j : ℕ) (h : i ≤ j) (k : j < length l) where
+  pub starts-rise : start D (getD l i 0) ≤ start D (getD l j 0)
+  starts-rise = go (le-or-lt j i)
+    where
+      go : (j ≤ i) ⊎ (i < j) → start D (getD l i 0) ≤ start D (getD l j 0)
+      go (inl x) = rw (le-antisymm h x) (le-refl _)
+      go (inr x) = omega (arith, in-order D 0 l o i j x k, span-pos D (getD l i 0))
+
+  pub ends-rise : end D (getD l i 0) ≤ end D (getD l j 0)
+  ends-rise = go (le-or-lt j i)
+    where
+      go : (j ≤ i) ⊎ (i < j) → end D (getD l i 0) ≤ end D (getD l j 0)
+      go (inl x) = rw (le-antisymm h x) (le-refl _)
+      go (inr x) = omega (arith, in-order D 0 l o i j x k, span-pos D (getD l j 0))
+
+-- so a leaf between two leaves that meet a cell meets it too
+pub together : (D : ℕ) (l : List ℕ) → Ordered D 0 l → (m i j k : ℕ) → i ≤ j → j ≤ k → k < length l → Meets D (getD l i 0) m → Meets D (getD l k 0) m → Meets D (getD l j 0) m
+together D l o m i j k a b h p q =
+    let (x, y) = meets-iff D (getD l i 0) m .0 p in
+    let (z, w) = meets-iff D (getD l k 0) m .0 q in
+    meets-iff D (getD l j 0) m .1 (omega (arith, ends-rise D l o i j a (omega arith)), omega (arith, starts-rise D l o j k b h))
+
+-- ---- the part of the leaves that meet a cell
+
+module _ (D : ℕ) (l : List ℕ) (m at n : ℕ) where
+  -- the leaves before it end before the cell begins, those after it start after its end, and its own meet the cell
+  pub part-made : at + n ≤ length l → ((i : ℕ) → i < at → end D (getD l i 0) ≤ start D m) → ((i : ℕ) → at + n ≤ i → i < length l → end D m ≤ start D (getD l i 0))
+      → ((i : ℕ) → at ≤ i → i < at + n → (start D m < end D (getD l i 0)) × (start D (getD l i 0) < end D m))
+      → (n ≡ 0 → (i : ℕ) → i < length l → (i < at) ↔ (start D (getD l i 0) < start D m)) → MetPart D l m at n
+  part-made w before after inside ins = record { within = w; met = λ i h. (λ t. meets-iff D (getD l i 0) m .1 (inside i (t .0) (t .1)), λ t. back i h (meets-iff D (getD l i 0) m .0 t) (le-or-lt at i) (le-or-lt (at + n) i)); inserted = ins }
+    where
+      back : (i : ℕ) → i < length l → (start D m < end D (getD l i 0)) × (start D (getD l i 0) < end D m) → (at ≤ i) ⊎ (i < at) → (at + n ≤ i) ⊎ (i < at + n) → (at ≤ i) × (i < at + n)
+      back i h t (inl a) (inr b) = (a, b)
+      back i h t (inr a) b = absurd (omega (arith, before i a))
+      back i h t (inl a) (inl b) = absurd (omega (arith, after i b h))
+
+-- ---- there is only one
+
+module _ (D : ℕ) (l : List ℕ) (m at n at′ n′ : ℕ) (p : MetPart D l m at n) (q : MetPart D l m at′ n′) where
+  -- each index of the one is one of the other
+  within-other : (i : ℕ) → at ≤ i → i < at + n → (at′ ≤ i) × (i < at′ + n′)
+  within-other i a b = let h : i < length l = omega (arith, p .within) in q .met i h .1 (p .met i h .0 (a, b))
+
+  -- where the one has none, the other begins no later
+  no-later : n ≡ 0 → n′ ≡ 0 → at ≤ at′
+  no-later z z′ = go (le-or-lt at at′)
+    where
+      go : (at ≤ at′) ⊎ (at′ < at) → at ≤ at′
+      go (inl h) = h
+      go (inr h) = let k : at′ < length l = omega (arith, p .within) in let x = q .inserted z′ at′ k .1 (p .inserted z at′ k .0 h) in absurd (omega arith)
+
+pub one-part : (D : ℕ) (l : List ℕ) (m at n at′ n′ : ℕ) → MetPart D l m at n → MetPart D l m at′ n′ → (at ≡ at′) × (n ≡ n′)
+one-part D l m at n at′ n′ p q = go (le-or-lt n 0) (le-or-lt n′ 0)
   where
-    later : start D c + span D c ≤ start D (getD l i 0)
-    later = member D (start D c + span D c) l (getD l i 0) o (member-at l i (le-of-suc-le-suc h)) .1
-
-    go : (start D (getD l i 0) + span D (getD l i 0) ≤ x) ↔ (i < ended D x l) → (start D c + span D c ≤ x) ⊎ (x < start D c + span D c)
-        → (start D (getD l i 0) + span D (getD l i 0) ≤ x) ↔ (suc i < ended D x (c ∷ l))
-    go (to, back) (inl k) = (λ b. let t = to b in omega (arith, ended-one D x c l k), λ b. back (omega (arith, ended-one D x c l k)))
-    go (to, back) (inr k) = (λ b. omega (arith, later), λ b. omega (arith, ended-none D x c l k))
-
-pub begun-at : (D from : ℕ) (l : List ℕ) → Ordered D from l → (x i : ℕ) → i < length l → (start D (getD l i 0) < x) ↔ (i < begun D x l)
-unfolding Ordered
-begun-at D from [] o x i h = absurd (not-suc-le-zero h)
-begun-at D from (c ∷ l) (p, f, o) x zero h = go (le-or-lt x (start D c))
-  where
-    go : (x ≤ start D c) ⊎ (start D c < x) → (start D c < x) ↔ (0 < begun D x (c ∷ l))
-    go (inl k) = (λ b. omega arith, λ b. omega (arith, begun-none D x c l k))
-    go (inr k) = (λ _. omega (arith, begun-one D x c l k), λ _. k)
-begun-at D from (c ∷ l) (p, f, o) x (suc i) h = go (begun-at D (start D c + span D c) l o x i (le-of-suc-le-suc h)) (le-or-lt x (start D c))
-  where
-    later : start D c + span D c ≤ start D (getD l i 0)
-    later = member D (start D c + span D c) l (getD l i 0) o (member-at l i (le-of-suc-le-suc h)) .1
-
-    go : (start D (getD l i 0) < x) ↔ (i < begun D x l) → (x ≤ start D c) ⊎ (start D c < x) → (start D (getD l i 0) < x) ↔ (suc i < begun D x (c ∷ l))
-    go (to, back) (inl k) = (λ b. omega (arith, later), λ b. omega (arith, begun-none D x c l k))
-    go (to, back) (inr k) = (λ b. let t = to b in omega (arith, begun-one D x c l k), λ b. back (omega (arith, begun-one D x c l k)))
-
--- ---- leaves that meet a cell
-
--- two cells share a voxel
-unfoldable pub Meets : ℕ → ℕ → ℕ → Type 0
-Meets D c d = (v : ℕ) × (holds D c v ≡ true) × (holds D d v ≡ true)
-
-pub meets-iff : (D c d : ℕ) → Meets D c d ↔ ((start D d < start D c + span D c) × (start D c < start D d + span D d))
-unfolding Meets
-meets-iff D c d = (to, back)
-  where
-    to : (v : ℕ) × (holds D c v ≡ true) × (holds D d v ≡ true) → (start D d < start D c + span D c) × (start D c < start D d + span D d)
-    to (v, h, k) = let a = holds-true D c v h in let b = holds-true D d v k in omega arith
-
-    back : (start D d < start D c + span D c) × (start D c < start D d + span D d) → (v : ℕ) × (holds D c v ≡ true) × (holds D d v ≡ true)
-    back (h, k) = let a = span-pos D c in let b = span-pos D d in (max (start D c) (start D d), held D c _ (omega arith) (omega arith), held D d _ (omega arith) (omega arith))
-
--- The leaf at i meets the cell d just where i is from `ended D (start D d) l` on and below `begun D (start D d + span D d) l`.
-pub meets-at : (D from : ℕ) (l : List ℕ) → Ordered D from l → (d i : ℕ) → i < length l
-    → Meets D (getD l i 0) d ↔ ((ended D (start D d) l ≤ i) × (i < begun D (start D d + span D d) l))
-meets-at D from l o d i h = (to, back)
-  where
-    c : ℕ
-    c = getD l i 0
-
-    begins : (start D c < start D d + span D d) ↔ (i < begun D (start D d + span D d) l)
-    begins = begun-at D from l o (start D d + span D d) i h
-
-    ends : (start D c + span D c ≤ start D d) ↔ (i < ended D (start D d) l)
-    ends = ended-at D from l o (start D d) i h
-
-    to : Meets D c d → (ended D (start D d) l ≤ i) × (i < begun D (start D d + span D d) l)
-    to m = let (a, b) = meets-iff D c d .0 m in (go a (le-or-lt (ended D (start D d) l) i), begins .0 b)
-      where
-        go : start D d < start D c + span D c → (ended D (start D d) l ≤ i) ⊎ (i < ended D (start D d) l) → ended D (start D d) l ≤ i
-        go a (inl k) = k
-        go a (inr k) = absurd (omega (arith, ends .1 k))
-
-    back : (ended D (start D d) l ≤ i) × (i < begun D (start D d + span D d) l) → Meets D c d
-    back (a, b) = meets-iff D c d .1 (go (le-or-lt (start D c + span D c) (start D d)), begins .1 b)
-      where
-        go : (start D c + span D c ≤ start D d) ⊎ (start D d < start D c + span D c) → start D d < start D c + span D c
-        go (inl k) = absurd (omega (arith, ends .0 k))
-        go (inr k) = k
+    go : (n ≤ 0) ⊎ (0 < n) → (n′ ≤ 0) ⊎ (0 < n′) → (at ≡ at′) × (n ≡ n′)
+    go (inl z) (inl w) = (le-antisymm (no-later D l m at n at′ n′ p q (omega arith) (omega arith)) (no-later D l m at′ n′ at n q p (omega arith) (omega arith)), omega arith)
+    go (inl z) (inr w) = let t = within-other D l m at′ n′ at n q p at′ (le-refl at′) (omega arith) in absurd (omega arith)
+    go (inr z) (inl w) = let t = within-other D l m at n at′ n′ p q at (le-refl at) (omega arith) in absurd (omega arith)
+    go (inr z) (inr w) =
+        let a = within-other D l m at n at′ n′ p q at (le-refl at) (omega arith) in
+        let b = within-other D l m at′ n′ at n q p at′ (le-refl at′) (omega arith) in
+        let c = within-other D l m at n at′ n′ p q (at + n - 1) (omega arith) (omega arith) in
+        let d = within-other D l m at′ n′ at n q p (at′ + n′ - 1) (omega arith) (omega arith) in
+        (omega arith, omega arith)

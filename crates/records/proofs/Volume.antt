@@ -1,4 +1,5 @@
--- The volume of an ordered list is the number of its black voxels. Assumes nothing.
+-- The voxels of an ordered list's leaves, added up, are its black voxels; and how many voxels are black in a join, an intersection, a difference and a moved list.
+-- Assumes nothing.
 use mathlib.Core.Path.{_≡_, sym, ap₂, _∙_}
 use mathlib.Core.Bool.{true, false, not, _&&_, _||_, and-false}
 use mathlib.Core.Logic.{_⊎_, inl, inr}
@@ -31,35 +32,30 @@ list-volume D from (c ∷ l) (p, f, o) =
     apart v (inl h) = rw (after-cell D c v h)
     apart v (inr h) = rw (black-before D (start D c + span D c) l o v h) (and-false (holds D c v))
 
--- ---- join, intersection and difference, by their black voxels
+-- ---- counts of black voxels, by which voxels are black
 
-module _ (D : ℕ) (l m : List ℕ) (ol : Ordered D 0 l) (om : Ordered D 0 m) where
-  -- the volumes of a join j and an intersection i add up to those of the two lists
-  pub join-volume : (j i : List ℕ) → Ordered D 0 j → Ordered D 0 i
-      → ((v : ℕ) → v < 8 ^ D → black D j v ≡ (black D l v || black D m v)) → ((v : ℕ) → v < 8 ^ D → black D i v ≡ (black D l v && black D m v))
-      → volume D j + volume D i ≡ volume D l + volume D m
-  join-volume j i oj oi hj hi =
+-- how many voxels are black
+abbrev pub blacks : ℕ → List ℕ → ℕ
+blacks D l = count (black D l) (8 ^ D)
+
+module _ (D : ℕ) (l m : List ℕ) where
+  -- those of a join j and an intersection i add up to those of the two lists
+  pub join-volume : (j i : List ℕ) → ((v : ℕ) → v < 8 ^ D → black D j v ≡ (black D l v || black D m v)) → ((v : ℕ) → v < 8 ^ D → black D i v ≡ (black D l v && black D m v))
+      → blacks D j + blacks D i ≡ blacks D l + blacks D m
+  join-volume j i hj hi =
       omega (
         arith,
-        list-volume D 0 l ol,
-        list-volume D 0 m om,
-        list-volume D 0 j oj,
-        list-volume D 0 i oi,
         count-same (black D j) (λ v. black D l v || black D m v) (8 ^ D) hj,
         count-same (black D i) (λ v. black D l v && black D m v) (8 ^ D) hi,
         count-join (black D l) (black D m) (8 ^ D),
       )
 
-  -- those of a difference d and an intersection i to that of the first
-  pub difference-volume : (d i : List ℕ) → Ordered D 0 d → Ordered D 0 i
-      → ((v : ℕ) → v < 8 ^ D → black D d v ≡ (black D l v && not (black D m v))) → ((v : ℕ) → v < 8 ^ D → black D i v ≡ (black D l v && black D m v))
-      → volume D d + volume D i ≡ volume D l
-  difference-volume d i od oi hd hi =
+  -- those of a difference d and an intersection i to those of the first
+  pub difference-volume : (d i : List ℕ) → ((v : ℕ) → v < 8 ^ D → black D d v ≡ (black D l v && not (black D m v))) → ((v : ℕ) → v < 8 ^ D → black D i v ≡ (black D l v && black D m v))
+      → blacks D d + blacks D i ≡ blacks D l
+  difference-volume d i hd hi =
       omega (
         arith,
-        list-volume D 0 l ol,
-        list-volume D 0 d od,
-        list-volume D 0 i oi,
         count-same (black D d) (λ v. black D l v && not (black D m v)) (8 ^ D) hd,
         count-same (black D i) (λ v. black D l v && black D m v) (8 ^ D) hi,
         count-less (black D l) (black D m) (8 ^ D),
@@ -69,6 +65,5 @@ module _ (D : ℕ) (l m : List ℕ) (ol : Ordered D 0 l) (om : Ordered D 0 m) wh
   pub moved-volume : (f g : ℕ → ℕ)
       → ((v : ℕ) → v < 8 ^ D → black D l v ≡ true → (f v < 8 ^ D) × (black D m (f v) ≡ true) × (g (f v) ≡ v))
       → ((w : ℕ) → w < 8 ^ D → black D m w ≡ true → (g w < 8 ^ D) × (black D l (g w) ≡ true) × (f (g w) ≡ w))
-      → volume D l ≡ volume D m
-  moved-volume f g to back =
-      sym (list-volume D 0 l ol) ∙ count-bijection (black D l) (black D m) (8 ^ D) (8 ^ D) f g to back ∙ list-volume D 0 m om
+      → blacks D l ≡ blacks D m
+  moved-volume f g to back = count-bijection (black D l) (black D m) (8 ^ D) (8 ^ D) f g to back

@@ -1,8 +1,9 @@
 -- INNER: for the contracts of private and inner functions. Definitions only.
-use Prim.Native.Nat.{ℕ, suc, _+_}
+use mathlib.Core.Bool.{Bool, _&&_}
 use mathlib.Core.List.{List, [], _∷_}
-use mathlib.Core.Bool.{true, false}
-use lib.Dec.{leb, ltb}
+use Prim.Native.Nat.{ℕ, _+_, _-_, _≤_, _<_}
+use lib.Dec.{ltb}
+use lib.ListN.{getD}
 use Rattle.cells.specs.Cell.{start, span}
 
 -- how many voxels the leaves have
@@ -10,12 +11,13 @@ unfoldable pub volume : ℕ → List ℕ → ℕ
 volume D [] = 0
 volume D (c ∷ l) = span D c + volume D l
 
--- how many leaves, from the first on, end at or before voxel number x
-unfoldable pub ended : ℕ → ℕ → List ℕ → ℕ
-ended D x [] = 0
-ended D x (c ∷ l) = elim (leb (start D c + span D c) x) [ true ↦ suc (ended D x l) | false ↦ 0 ]
+-- r is the first place from lo up to hi whose leaf starts at v or after it
+pub record Starts (D : ℕ) (l : List ℕ) (v lo hi r : ℕ) : Type 0 where
+  pub low : lo ≤ r
+  pub high : r ≤ hi
+  pub below : (i : ℕ) → lo ≤ i → i < r → start D (getD l i 0) < v
+  pub above : (i : ℕ) → r ≤ i → i < hi → v ≤ start D (getD l i 0)
 
--- and how many start before it
-unfoldable pub begun : ℕ → ℕ → List ℕ → ℕ
-begun D x [] = 0
-begun D x (c ∷ l) = elim (ltb (start D c) x) [ true ↦ suc (begun D x l) | false ↦ 0 ]
+-- whether the leaf before place `at` ends after voxel v
+unfoldable pub reaches : ℕ → List ℕ → ℕ → ℕ → Bool
+reaches D l at v = ltb 0 at && ltb v (start D (getD l (at - 1) 0) + span D (getD l (at - 1) 0))

@@ -6,3 +6,5 @@ pub mod Calls
 pub mod Met
 -- the vocabulary of private and inner functions
 pub mod Inner
+pub mod Walk
+pub mod Meeting

@@ -1,0 +1,82 @@
+-- `probe::on_records::copy` meets its contract. The loop's invariant: the codes passed stand at the front, the rest is as it was. Assumes nothing.
+use mathlib.Core.Path.{_≡_, ap, _∙_}
+use mathlib.Core.List.{List, _++_}
+use Prim.Native.Nat.{ℕ, _≤_, _-_, min}
+use native.Mathlib.Omega.{arith}
+use lib.ListN.{length, length-set, take, drop, set, getD}
+use Rattle.probe.proofs.Words.{copied-none, copied-more}
+use Rattle.probe.proofs.on_records.copy.Statement.{statement}
+use Rattle.probe.proofs.on_records.copy.Tie as tie
+
+abbrev Inv-loop : tie.InvT-loop
+Inv-loop from to₀ i₀ to i = (i ≤ length from) × (i ≤ length to₀) × (length to ≡ length to₀) × (to ≡ take i from ++ drop i to₀)
+
+abbrev μ-loop : tie.MeasureT-loop
+μ-loop from to₀ i₀ to i = length from - i
+
+loop-holds : tie.Need-loop-holds Inv-loop μ-loop
+loop-holds c = (omega arith, omega arith, omega arith, copied-none (c .args .from .now) (c .args .to .now))
+
+same-length : tie.Need-same-length Inv-loop μ-loop
+same-length c = omega arith
+
+returns : tie.Need-returns Inv-loop μ-loop
+returns c =
+    let l = c .before .before in
+    let a = l .before .args in
+    let e : l .loop .i ≡ min (length (a .from .now)) (length (a .to .now)) = omega arith in
+    l .loop .inv .3 ∙ ap (λ (n : ℕ). take n (a .from .now) ++ drop n (a .to .now)) e
+
+mul-to : tie.Need-mul-to Inv-loop μ-loop
+mul-to c = omega arith
+
+shared-slice-read-to : tie.Need-shared-slice-read-to Inv-loop μ-loop
+shared-slice-read-to c = omega arith
+
+mul-to-2 : tie.Need-mul-to-2 Inv-loop μ-loop
+mul-to-2 c = omega arith
+
+slice-write-to : tie.Need-slice-write-to Inv-loop μ-loop
+slice-write-to c = omega arith
+
+add-i : tie.Need-add-i Inv-loop μ-loop
+add-i c = omega arith
+
+loop-less : tie.Need-loop-less Inv-loop μ-loop
+loop-less c = omega arith
+
+loop-again : tie.Need-loop-again Inv-loop μ-loop
+loop-again c =
+    let l = c .before .before .before in
+    let a = l .before .args in
+    let i : ℕ = l .loop .i in
+    (omega arith, omega arith, simp length-set (omega arith), ap (λ (t : List ℕ). set t i (getD (a .from .now) i 0)) (l .loop .inv .3) ∙ copied-more i (a .from .now) (a .to .now) (omega arith) (omega arith))
+
+same-length-2 : tie.Need-same-length-2 Inv-loop μ-loop
+same-length-2 c = omega arith
+
+returns-2 : tie.Need-returns-2 Inv-loop μ-loop
+returns-2 c =
+    let l = c .before in
+    let a = l .before .args in
+    let e : l .loop .i ≡ min (length (a .from .now)) (length (a .to .now)) = omega arith in
+    l .loop .inv .3 ∙ ap (λ (n : ℕ). take n (a .from .now) ++ drop n (a .to .now)) e
+
+pub copy-spec : {M : Type 1} → statement M
+copy-spec =
+    tie.close
+    (tie.spec
+    Inv-loop
+    μ-loop
+    loop-holds
+    same-length
+    returns
+    mul-to
+    shared-slice-read-to
+    mul-to-2
+    slice-write-to
+    add-i
+    loop-less
+    loop-again
+    same-length-2
+    returns-2)

@@ -1,0 +1,120 @@
+-- For each public call of this crate an answer that fits its definition at a named input, and one that does not: no definition is empty or says nothing.
+-- Assumes nothing.
+use mathlib.Core.Path.{_≡_, refl, ap}
+use mathlib.Core.Logic.{inl, inr}
+use mathlib.Core.List.{List, [], _∷_}
+use Prim.Native.Nat.{ℕ, zero, suc, _+_, _≤_, _<_}
+use native.Mathlib.Omega.{arith}
+use lib.Dec.{lit<, lit≤}
+use lib.IntN.{pos}
+use lib.ListN.{length, getD}
+use Rattle.cells.specs.Answer.{answer, given}
+use Rattle.cells.specs.Cell.{topBit, level, proper, index, side, start, span, holds}
+use Rattle.cells.specs.Place.{along, corner, number}
+use Rattle.cells.specs.Neighbour.{isStep, isNone, isDirection, Neighbour}
+use Rattle.cells.specs.declared.Answer.{Answer}
+use Rattle.cells.proofs.Bools.{clash}
+use Rattle.cells.proofs.Decisions.{passes}
+use Rattle.records.specs.Record.{black}
+use Rattle.records.specs.Count.{count}
+use Rattle.records.specs.Fault.{allFrom, early, eightAt, fault, firstFrom, firstFault}
+use Rattle.records.specs.Calls.{inRoot, CheckOf, LookupOf, VolumeOf}
+use Rattle.records.specs.Met.{MetPart, PartOf, MetOf, MetAtOf}
+use Rattle.records.proofs.Fault.{end}
+use Rattle.records.proofs.Part.{part-made}
+use Rattle.records.proofs.CallLaws.{one-check, one-lookup, one-volume}
+use Rattle.records.proofs.MetLaws.{one-met-at, one-met}
+
+-- ---- depth 3, [r057]
+
+abbrev one : List ℕ
+one = 559 ∷ []
+
+none-faulty : firstFault 3 one < length one → ⊥
+unfolding topBit level proper early fault firstFrom firstFault
+none-faulty h = omega arith
+
+pub check-holds : CheckOf 3 one (given 1)
+check-holds = inr (passes (λ h. omega arith), inr (passes none-faulty, refl))
+
+pub check-fails : CheckOf 3 one (given 2) → ⊥
+check-fails h = let e : _≡_ {A = ℕ} 2 1 = ap (λ (r : Answer). r .place) (one-check 3 one _ _ h check-holds) in omega arith
+
+-- r057 stands at 3, 1, 3
+pub lookup-holds : LookupOf 3 one 3 1 3 (given 1)
+unfolding inRoot number level index span start holds black
+lookup-holds = inr (passes (λ h. omega arith), inr (passes none-faulty, inr (passes (clash refl), refl)))
+
+pub lookup-fails : LookupOf 3 one 3 1 3 (given 0) → ⊥
+lookup-fails h = let e : _≡_ {A = ℕ} 0 1 = ap (λ (r : Answer). r .place) (one-lookup 3 one 3 1 3 _ _ h lookup-holds) in omega arith
+
+pub volume-holds : VolumeOf 3 one (given 1)
+unfolding level index span start holds black count
+volume-holds = inr (passes (λ h. omega arith), inr (passes none-faulty, refl))
+
+pub volume-fails : VolumeOf 3 one (given 47) → ⊥
+volume-fails h = let e : _≡_ {A = ℕ} 47 1 = ap (λ (r : Answer). r .place) (one-volume 3 one _ _ h volume-holds) in omega arith
+
+-- ---- depth 1, codes 8 to 15: eight siblings, told at the last
+
+abbrev eight : List ℕ
+eight = 8 ∷ 9 ∷ 10 ∷ 11 ∷ 12 ∷ 13 ∷ 14 ∷ 15 ∷ []
+
+pub check-refuses : CheckOf 1 eight (answer 4 7 1)
+unfolding topBit level proper index span start early allFrom eightAt fault firstFrom firstFault
+check-refuses = inr (passes (λ h. omega arith), inl (_, (lit< tt, refl), refl))
+
+pub check-takes-none : CheckOf 1 eight (given 8) → ⊥
+check-takes-none h = let e : _≡_ {A = ℕ} 0 4 = ap (λ (r : Answer). r .number) (one-check 1 eight _ _ h check-refuses) in omega arith
+
+-- ---- depth 2, [r0, r2], north of r03: r21 lies in the bigger leaf r2, at index 1, 4 bytes on
+
+abbrev two : List ℕ
+two = 8 ∷ 10 ∷ []
+
+sound : firstFault 2 two < length two → ⊥
+unfolding topBit level proper index span start early fault firstFrom firstFault
+sound h = omega arith
+
+north : Neighbour 2 67 (pos 0) (pos 1) (pos 0) 81
+unfolding topBit level proper along index side corner
+north = record { is-proper = refl; same-level = refl; x = refl; y = refl; z = refl }
+
+r0-before : end 2 8 ≤ start 2 81
+unfolding level index span start
+r0-before = lit≤ tt
+
+r2-meets : (start 2 81 < end 2 10) × (start 2 10 < end 2 81)
+unfolding level index span start
+r2-meets = (lit< tt, lit< tt)
+
+bigger : MetPart 2 two 81 1 1
+bigger = part-made 2 two 81 1 1 (lit≤ tt) before (λ i a b. absurd (omega arith)) inside (λ z. absurd (omega arith))
+  where
+    before : (i : ℕ) → i < 1 → end 2 (getD two i 0) ≤ start 2 81
+    before zero h = r0-before
+    before (suc i) h = absurd (omega arith)
+
+    inside : (i : ℕ) → 1 ≤ i → i < 2 → (start 2 81 < end 2 (getD two i 0)) × (start 2 (getD two i 0) < end 2 81)
+    inside zero a b = absurd (omega arith)
+    inside (suc zero) a b = r2-meets
+    inside (suc (suc i)) a b = absurd (omega arith)
+
+met-part : PartOf 2 two 67 (pos 0) (pos 1) (pos 0) (1, 1)
+unfolding topBit level proper isStep isNone isDirection
+met-part =
+    inr (passes (λ h. omega arith), inr (passes sound, inr (passes (clash refl), inr (passes (clash refl), inr (passes (λ none. none 81 north), (81, north, bigger))))))
+
+pub met-holds : MetOf 2 two (5, 0) 67 (pos 0) (pos 1) (pos 0) (10 ∷ []) (5, 4)
+met-holds = record { at = 1; n = 1; part = met-part; codes = refl; memory = refl; begins = refl }
+
+pub met-fails : MetOf 2 two (5, 0) 67 (pos 0) (pos 1) (pos 0) [] (5, 0) → ⊥
+met-fails h = let e : _≡_ {A = ℕ} 0 1 = ap length (one-met 2 two 67 (pos 0) (pos 1) (pos 0) (5, 0) [] (10 ∷ []) (5, 0) (5, 4) h met-holds .0) in omega arith
+
+pub met-at-holds : MetAtOf 2 two 67 (pos 0) (pos 1) (pos 0) (given 1)
+unfolding topBit level proper isStep isNone isDirection
+met-at-holds =
+    inr (passes (λ h. omega arith), inr (passes sound, inr (passes (clash refl), inr (passes (clash refl), inr (passes (λ none. none 81 north), (81, 1, 1, north, bigger, refl))))))
+
+pub met-at-fails : MetAtOf 2 two 67 (pos 0) (pos 1) (pos 0) (given 0) → ⊥
+met-at-fails h = let e : _≡_ {A = ℕ} 0 1 = ap (λ (r : Answer). r .place) (one-met-at 2 two 67 (pos 0) (pos 1) (pos 0) _ _ h met-at-holds) in omega arith

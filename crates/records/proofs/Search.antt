@@ -1,0 +1,113 @@
+-- What the search in an ordered list finds: the leaf that may hold a voxel, and the leaves that meet a cell. Assumes nothing.
+use mathlib.Core.Path.{_≡_, refl, sym, ap, _∙_}
+use mathlib.Core.Bool.{Bool, true, false}
+use mathlib.Core.Logic.{_⊎_, inl, inr}
+use mathlib.Core.List.{List}
+use Prim.Native.Nat.{ℕ, suc, _+_, _-_, _≤_, _<_, zero-le}
+use native.Mathlib.Omega.{arith}
+use lib.Dec.{ltb}
+use lib.ListN.{length, getD}
+use borrow.Author.Tests.{ltb-true, lt-ltb, le-ltb}
+use Rattle.cells.specs.Cell.{proper, start, span}
+use Rattle.records.specs.Record.{black, Ordered}
+use Rattle.records.specs.Inner.{Starts, reaches}
+use Rattle.records.specs.Met.{MetPart}
+use Rattle.cells.proofs.Power.{le-or-lt}
+use Rattle.cells.proofs.Bools.{both-true, refuted, clash}
+use Rattle.cells.proofs.Cells.{span-pos}
+use Rattle.records.proofs.Lists.{holds-true, held}
+use Rattle.records.proofs.Leaves.{member, member-black, leaf-of}
+use Rattle.records.proofs.Fault.{end, member-at, index-of, in-order}
+use Rattle.records.proofs.Part.{starts-rise, ends-rise, part-made}
+
+pub proper-at : (D : ℕ) (l : List ℕ) → Ordered D 0 l → (i : ℕ) → i < length l → proper D (getD l i 0) ≡ true
+proper-at D l o i h = member D 0 l (getD l i 0) o (member-at l i h) .0
+
+-- the same search, by equal numbers
+pub starts-same : {D : ℕ} {l : List ℕ} {v w lo hi n r : ℕ} → v ≡ w → hi ≡ n → Starts D l v lo hi r → Starts D l w lo n r
+starts-same e f s = rw (← e, ← f) s
+
+-- ---- the test of the leaf before a place
+
+pub reaches-none : (D : ℕ) (l : List ℕ) (at v : ℕ) → at ≡ 0 → reaches D l at v ≡ false
+unfolding reaches
+reaches-none D l at v e = rw (le-ltb 0 at (omega arith))
+
+pub reaches-is : (D : ℕ) (l : List ℕ) (at v : ℕ) → 0 < at → reaches D l at v ≡ ltb v (end D (getD l (at - 1) 0))
+unfolding reaches
+reaches-is D l at v h = rw (lt-ltb 0 at h)
+
+pub reaches-true : (D : ℕ) (l : List ℕ) (at v : ℕ) → reaches D l at v ≡ true → (0 < at) × (v < end D (getD l (at - 1) 0))
+unfolding reaches
+reaches-true D l at v e = let t = both-true (ltb 0 at) (ltb v (end D (getD l (at - 1) 0))) e in (ltb-true 0 at (t .0), ltb-true v _ (t .1))
+
+reaches-false : (D : ℕ) (l : List ℕ) (at v : ℕ) → reaches D l at v ≡ false → 0 < at → end D (getD l (at - 1) 0) ≤ v
+reaches-false D l at v e h = go (le-or-lt (end D (getD l (at - 1) 0)) v)
+  where
+    go : (end D (getD l (at - 1) 0) ≤ v) ⊎ (v < end D (getD l (at - 1) 0)) → end D (getD l (at - 1) 0) ≤ v
+    go (inl k) = k
+    go (inr k) = absurd (clash (reaches-is D l at v h ∙ lt-ltb v _ k) e)
+
+module _ (D : ℕ) (l : List ℕ) (o : Ordered D 0 l) where
+  -- ---- a voxel is black just where the last leaf that starts at it or before it ends after it
+
+  -- a leaf that holds v is that one
+  the-last : (v at i : ℕ) → Starts D l (suc v) 0 (length l) at → i < length l → start D (getD l i 0) ≤ v → v < end D (getD l i 0) → reaches D l at v ≡ true
+  the-last v at i s h lo hi = go (le-or-lt at i)
+    where
+      go : (at ≤ i) ⊎ (i < at) → reaches D l at v ≡ true
+      go (inl k) = absurd (omega (arith, s .above i k h))
+      go (inr k) = reaches-is D l at v (omega arith) ∙ lt-ltb v _ (omega (arith, ends-rise D l o i (at - 1) (omega arith) (omega (arith, s .high))))
+
+  pub black-last : (v at : ℕ) → Starts D l (suc v) 0 (length l) at → reaches D l at v ≡ black D l v
+  black-last v at s = go (reaches D l at v) refl
+    where
+      go : (t : Bool) → reaches D l at v ≡ t → t ≡ black D l v
+      go true e =
+          let (p, r) = reaches-true D l at v e in
+          let i : at - 1 < length l = omega (arith, s .high) in
+          let lo = s .below (at - 1) zero-le (omega arith) in
+          sym (member-black D (getD l (at - 1) 0) l v (member-at l (at - 1) i) (held D (getD l (at - 1) 0) v (omega arith) r))
+      go false e = sym (refuted (black D l v) (λ b.
+        let (c, m, h) = leaf-of D l v b in
+        let (i, k, f) = index-of c l m in
+        let t = holds-true D c v h in
+        clash (the-last v at i s k (rw f (t .0)) (rw f (t .1))) e))
+
+  -- ---- the leaves that meet the cell m: `at` is the first that starts in it, or after it, and e the first that starts after it
+
+  module _ (m at e : ℕ) (s : Starts D l (start D m) 0 (length l) at) (t : Starts D l (end D m) at (length l) e) where
+    inside : (i : ℕ) → at ≤ i → i < e → (start D m < end D (getD l i 0)) × (start D (getD l i 0) < end D m)
+    inside i a b = (omega (arith, s .above i a (omega (arith, t .high)), span-pos D (getD l i 0)), t .below i a b)
+
+    pub part-from : reaches D l at (start D m) ≡ false → MetPart D l m at (e - at)
+    part-from r =
+        let low = t .low in
+        let high = t .high in
+        part-made D l m at (e - at) (omega arith)
+        (λ i h. omega (arith, ends-rise D l o i (at - 1) (omega arith) (omega arith), reaches-false D l at (start D m) r (omega arith)))
+        (λ i a h. t .above i (omega arith) h)
+        (λ i a b. inside i a (omega arith))
+        (λ z i h. (λ k. s .below i zero-le k, λ k. before i h k (le-or-lt at i)))
+      where
+        before : (i : ℕ) → i < length l → start D (getD l i 0) < start D m → (at ≤ i) ⊎ (i < at) → i < at
+        before i h k (inl x) = absurd (omega (arith, s .above i x h))
+        before i h k (inr x) = x
+
+    -- a bigger leaf that starts before the cell is met too
+    pub part-before : reaches D l at (start D m) ≡ true → MetPart D l m (at - 1) (e - (at - 1))
+    part-before r =
+        let low = t .low in
+        let high = t .high in
+        let (pos, far) = reaches-true D l at (start D m) r in
+        let near = s .below (at - 1) zero-le (omega arith) in
+        part-made D l m (at - 1) (e - (at - 1)) (omega arith)
+        (λ i h. omega (arith, in-order D 0 l o i (at - 1) h (omega arith)))
+        (λ i a h. t .above i (omega arith) h)
+        (λ i a b. meet i far near (le-or-lt at i) a (omega arith))
+        (λ z i h. absurd (omega arith))
+      where
+        meet : (i : ℕ) → start D m < end D (getD l (at - 1) 0) → start D (getD l (at - 1) 0) < start D m → (at ≤ i) ⊎ (i < at) → at - 1 ≤ i → i < e
+            → (start D m < end D (getD l i 0)) × (start D (getD l i 0) < end D m)
+        meet i far near (inl x) a b = inside i x b
+        meet i far near (inr x) a b = let same : at - 1 ≡ i = omega arith in rw (← same) (far, omega (arith, near, span-pos D m))

@@ -1,0 +1,11 @@
+-- `records::inner::begin` meets its contract. Assumes nothing.
+use mathlib.Core.Path.{refl}
+use Rattle.records.proofs.Walks.{begins}
+use Rattle.records.proofs.inner.begin.Statement.{statement}
+use Rattle.records.proofs.inner.begin.Tie as tie
+
+returns : tie.Need-returns
+returns c = λ D l. begins D l _ refl refl refl refl
+
+pub begin-spec : {M : Type 1} → statement M
+begin-spec = tie.close (tie.spec returns)

@@ -1,0 +1,127 @@
+-- `records::inner::first_from` meets its contract. The loop's invariant: the leaves before a start before v, those from b on at v or after it. Assumes nothing.
+use Prim.Native.Nat.{ℕ, _+_, _-_, _/_, _≤_, _<_}
+use mathlib.Core.List.{List}
+use native.Mathlib.Omega.{arith}
+use borrow.Author.Needs.{needs}
+use lib.ListN.{length, getD}
+use Rattle.cells.specs.Cell.{start}
+use Rattle.records.proofs.Part.{starts-rise}
+use Rattle.records.proofs.Search.{proper-at}
+use Rattle.records.proofs.inner.first_from.Statement.{statement}
+use Rattle.records.proofs.inner.first_from.Tie as tie
+
+record Between (D : ℕ) (l : List ℕ) (v lo hi a b : ℕ) : Type 0 where
+  from : lo ≤ a
+  order : a ≤ b
+  to : b ≤ hi
+  below : (i : ℕ) → lo ≤ i → i < a → start D (getD l i 0) < v
+  above : (i : ℕ) → b ≤ i → i < hi → v ≤ start D (getD l i 0)
+
+abbrev Inv-loop : tie.InvT-loop
+Inv-loop depth l v lo hi a₀ b₀ a b = Between depth l v lo hi a b
+
+abbrev μ-loop : tie.MeasureT-loop
+μ-loop depth l v lo hi a₀ b₀ a b = b - a
+
+loop-holds : tie.Need-loop-holds Inv-loop μ-loop
+loop-holds c = record { from = omega arith; order = omega arith; to = omega arith; below = λ i p q. absurd (omega arith); above = λ i p q. absurd (omega arith) }
+
+sub-mid : tie.Need-sub-mid Inv-loop μ-loop
+sub-mid c = search needs
+
+add-mid : tie.Need-add-mid Inv-loop μ-loop
+add-mid c = search needs
+
+cast-at : tie.Need-cast-at Inv-loop μ-loop
+cast-at c = search needs
+
+mul-c : tie.Need-mul-c Inv-loop μ-loop
+mul-c c = search needs
+
+shared-slice-read-c : tie.Need-shared-slice-read-c Inv-loop μ-loop
+shared-slice-read-c c = search needs
+
+-- ---- the leaf in the middle
+
+module _ (c : tie.In-loop Inv-loop μ-loop) where
+  abbrev s : tie.Start Inv-loop μ-loop
+  s = c .before .before .before
+
+  abbrev u : tie.At-loop Inv-loop μ-loop
+  u = c .before
+
+  abbrev mid : ℕ
+  mid = u .loop .a + (u .loop .b - u .loop .a) / 2
+
+  below-hi : mid < s .args .hi
+  below-hi = omega (arith, u .loop .inv .to, c .loop-test .taken)
+
+  within : mid < length (s .args .l .now)
+  within = omega (arith, below-hi, s .pre .3)
+
+first-requires : tie.Need-first-requires Inv-loop μ-loop
+first-requires c κs =
+    let t = c .before in
+    (s t .pre .0, proper-at (s t .args .depth) (s t .args .l .now) (s t .pre .1) (mid t) (within t))
+
+add-a : tie.Need-add-a Inv-loop μ-loop
+add-a c = search needs
+
+loop-less : tie.Need-loop-less Inv-loop μ-loop
+loop-less c = search needs
+
+loop-again : tie.Need-loop-again Inv-loop μ-loop
+loop-again c =
+    let t = c .before .before .before in
+    let a = s t .args in
+    let o = s t .pre .1 in
+    let v = u t .loop .inv in
+    record {
+      from = omega (arith, v .from);
+      order = omega (arith, t .loop-test .taken);
+      to = v .to;
+      below = λ i p q. omega (arith, starts-rise (a .depth) (a .l .now) o i (mid t) (omega arith) (within t), c .if1 .taken, c .before .first .ensures);
+      above = v .above;
+    }
+
+loop-less-2 : tie.Need-loop-less-2 Inv-loop μ-loop
+loop-less-2 c = search needs
+
+loop-again-2 : tie.Need-loop-again-2 Inv-loop μ-loop
+loop-again-2 c =
+    let t = c .before .before .before in
+    let a = s t .args in
+    let o = s t .pre .1 in
+    let v = u t .loop .inv in
+    record {
+      from = v .from;
+      order = omega arith;
+      to = omega (arith, below-hi t);
+      below = v .below;
+      above = λ i p q. omega (arith, starts-rise (a .depth) (a .l .now) o (mid t) i p (omega (arith, s t .pre .3)), c .if1 .left, c .before .first .ensures);
+    }
+
+returns : tie.Need-returns Inv-loop μ-loop
+returns c =
+    let v = c .before .loop .inv in
+    record { low = v .from; high = omega (arith, v .order, v .to); below = v .below; above = λ i p q. v .above i (omega (arith, c .loop-test .left)) q }
+
+pub first-from-spec : {M : Type 1} → statement M
+first-from-spec =
+    tie.close
+    (tie.spec
+    Inv-loop
+    μ-loop
+    loop-holds
+    sub-mid
+    add-mid
+    cast-at
+    mul-c
+    shared-slice-read-c
+    first-requires
+    add-a
+    loop-less
+    loop-again
+    loop-less-2
+    loop-again-2
+    returns)

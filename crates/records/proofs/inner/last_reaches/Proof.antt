@@ -1,0 +1,73 @@
+-- `records::inner::last_reaches` meets its contract. Assumes nothing.
+use mathlib.Core.Path.{_≡_, sym, ap, _∙_}
+use mathlib.Core.Bool.{true}
+use Prim.Native.Nat.{ℕ, _-_, _+_}
+use native.Mathlib.Omega.{arith}
+use lib.Dec.{ltb}
+use lib.ListN.{getD}
+use borrow.Author.Needs.{needs}
+use Rattle.cells.specs.Cell.{proper}
+use Rattle.cells.proofs.Cells.{within}
+use Rattle.cells.proofs.Words.{pow8-small}
+use Rattle.records.proofs.Search.{proper-at, reaches-none, reaches-is}
+use Rattle.records.proofs.inner.last_reaches.Statement.{statement}
+use Rattle.records.proofs.inner.last_reaches.Tie as tie
+
+returns : tie.Need-returns
+returns c = let a = c .before .before .args in sym (reaches-none (a .depth) (a .l .now) (a .at) (a .v) (c .if1 .taken))
+
+sub-place : tie.Need-sub-place
+sub-place c = search needs
+
+cast-place : tie.Need-cast-place
+cast-place c = search needs
+
+mul-c : tie.Need-mul-c
+mul-c c = search needs
+
+shared-slice-read-c : tie.Need-shared-slice-read-c
+shared-slice-read-c c = search needs
+
+-- ---- the leaf before the place
+
+module _ (c : tie.Else1) where
+  abbrev s : tie.Start
+  s = c .before .before
+
+  abbrev leaf : ℕ
+  leaf = getD (s .args .l .now) (s .args .at - 1) 0
+
+  is : proper (s .args .depth) leaf ≡ true
+  is = proper-at (s .args .depth) (s .args .l .now) (s .pre .1) (s .args .at - 1) (omega (arith, c .if1 .left, s .pre .2))
+
+first-requires : tie.Need-first-requires
+first-requires c κs = let u = c .before in (s u .pre .0, is u)
+
+width-requires : tie.Need-width-requires
+width-requires c κs = let u = c .before .before in (s u .pre .0, is u)
+
+add-result : tie.Need-add-result
+add-result c =
+    let u = c .before .before .before in
+    let a = s u .args in
+    omega (arith, c .before .first .ensures, c .width .ensures, within (a .depth) (leaf u) (is u), pow8-small (a .depth) (s u .pre .0))
+
+returns-2 : tie.Need-returns-2
+returns-2 c =
+    let u = c .before .before .before in
+    let a = s u .args in
+    ap (ltb (a .v)) (omega (arith, c .before .first .ensures, c .width .ensures)) ∙ sym (reaches-is (a .depth) (a .l .now) (a .at) (a .v) (omega (arith, u .if1 .left)))
+
+pub last-reaches-spec : {M : Type 1} → statement M
+last-reaches-spec =
+    tie.close
+    (tie.spec
+    returns
+    sub-place
+    cast-place
+    mul-c
+    shared-slice-read-c
+    first-requires
+    width-requires
+    add-result
+    returns-2)

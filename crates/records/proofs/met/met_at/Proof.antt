@@ -1,0 +1,22 @@
+-- `records::met::met_at` meets its contract. Assumes nothing.
+use borrow.Author.Needs.{needs}
+use mir.Syntax.{w32}
+use mir.ValLaws.{toZ-ofZ}
+use Rattle.records.specs.Meeting.{MeetingOf}
+use Rattle.records.proofs.MetLaws.{answer-of}
+use Rattle.records.proofs.met.met_at.Statement.{statement}
+use Rattle.records.proofs.met.met_at.Tie as tie
+
+find-requires : tie.Need-find-requires
+find-requires c κs = search needs
+
+returns : tie.Need-returns
+returns c =
+    let s = c .before .before .before in
+    let a = s .args in
+    let d : MeetingOf (a .depth) (a .list .now) (a .code) (a .dx) (a .dy) (a .dz) (c .before .find .result) =
+    rw (toZ-ofZ w32 (a .dx) (s .fits .dx), toZ-ofZ w32 (a .dy) (s .fits .dy), toZ-ofZ w32 (a .dz) (s .fits .dz)) at (c .before .find .ensures) in
+    answer-of (a .depth) (a .list .now) (a .code) (a .dx) (a .dy) (a .dz) (c .before .find .result) d
+
+pub met-at-spec : {M : Type 1} → statement M
+met-at-spec = tie.close (tie.spec find-requires returns)

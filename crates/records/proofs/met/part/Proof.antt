@@ -1,0 +1,123 @@
+-- `records::met::part` meets its contract. Assumes nothing.
+use mathlib.Core.Path.{_≡_, refl, sym, ap, _∙_}
+use mathlib.Core.Bool.{true, false}
+use mathlib.Core.List.{List}
+use Prim.Native.Nat.{ℕ, _+_, _-_, _≤_, _<_}
+use native.Mathlib.Omega.{arith}
+use lib.ListN.{length}
+use borrow.Author.Needs.{needs}
+use Rattle.cells.specs.Cell.{start}
+use Rattle.cells.proofs.Cells.{within}
+use Rattle.cells.proofs.Words.{pow8-small}
+use Rattle.records.specs.Inner.{Starts, reaches}
+use Rattle.records.specs.Meeting.{placed, Together}
+use Rattle.records.specs.Met.{MetPart}
+use Rattle.records.specs.declared.met.Meeting.{Meeting}
+use Rattle.records.proofs.Fault.{end}
+use Rattle.records.proofs.Search.{starts-same, reaches-true, part-from, part-before}
+use Rattle.records.proofs.met.part.Statement.{statement}
+use Rattle.records.proofs.met.part.Tie as tie
+
+first-requires : tie.Need-first-requires
+first-requires c κs = search needs
+
+first-from-requires : tie.Need-first-from-requires
+first-from-requires c κs = let s = c .before .before in (s .pre .0, s .pre .1, omega arith, omega (arith, s .pre .2))
+
+width-requires : tie.Need-width-requires
+width-requires c κs = search needs
+
+add-first-from : tie.Need-add-first-from
+add-first-from c =
+    let f = c .before .before in
+    let s = f .before .before in
+    omega (arith, f .first .ensures, c .width .ensures, within (s .args .depth) (s .args .m) (s .pre .3), pow8-small (s .args .depth) (s .pre .0))
+
+first-from-requires-2 : tie.Need-first-from-requires-2
+first-from-requires-2 c κs =
+    let s = c .before .before .before .before in
+    let f = c .before .first-from .ensures in
+    (s .pre .0, s .pre .1, f .high, omega (arith, s .pre .2))
+
+last-reaches-requires : tie.Need-last-reaches-requires
+last-reaches-requires c κs =
+    let w = c .before in
+    let s = w .before .before .before .before in
+    (s .pre .0, s .pre .1, omega (arith, w .before .first-from .ensures .high, s .pre .2))
+
+-- ---- what the searches found
+
+module _ (c : tie.After-last-reaches) where
+  abbrev g : tie.After-first-from2
+  g = c .before
+
+  abbrev f : tie.After-first-from
+  f = g .before .before
+
+  abbrev s : tie.Start
+  s = f .before .before .before
+
+  abbrev D : ℕ
+  D = s .args .depth
+
+  abbrev l : List ℕ
+  l = s .args .list .now
+
+  abbrev at : ℕ
+  at = f .first-from .result
+
+  abbrev to : ℕ
+  to = g .first-from2 .result
+
+  begins : Starts D l (start D (s .args .m)) 0 (length l) at
+  begins = starts-same (f .before .first .ensures) (s .pre .2) (f .first-from .ensures)
+
+  ends : Starts D l (end D (s .args .m)) at (length l) to
+  ends = starts-same (omega (arith, f .before .first .ensures, g .before .width .ensures)) (s .pre .2) (g .first-from2 .ensures)
+
+  tested : c .last-reaches .result ≡ reaches D l at (start D (s .args .m))
+  tested = c .last-reaches .ensures ∙ ap (reaches D l at) (f .before .first .ensures)
+
+  some : c .last-reaches .result ≡ true → 0 < at
+  some e = reaches-true D l at (start D (s .args .m)) (sym tested ∙ e) .0
+
+-- leaves at a place, told with it
+told : (D : ℕ) (l : List ℕ) (m a n : ℕ) (r : Meeting) → r ≡ placed a n → MetPart D l m a n → Together D l m r
+told D l m a n r e p = rw e (record { part = p; tells = refl })
+
+sub-between : tie.Need-sub-between
+sub-between c = omega (arith, some (c .before) (c .if1 .taken))
+
+between-requires : tie.Need-between-requires
+between-requires c κs = omega (arith, ends (c .before) .low)
+
+returns : tie.Need-returns
+returns c =
+    let t = c .before .before in
+    let e = sym (tested t) ∙ c .before .if1 .taken in
+    told (D t) (l t) (s t .args .m) (at t - 1) (to t - (at t - 1)) _ (c .between .ensures) (part-before (D t) (l t) (s t .pre .1) (s t .args .m) (at t) (to t) (begins t) (ends t) e)
+
+between-requires-2 : tie.Need-between-requires-2
+between-requires-2 c κs = ends (c .before) .low
+
+returns-2 : tie.Need-returns-2
+returns-2 c =
+    let t = c .before .before in
+    let e = sym (tested t) ∙ c .before .if1 .left in
+    told (D t) (l t) (s t .args .m) (at t) (to t - at t) _ (c .between2 .ensures) (part-from (D t) (l t) (s t .pre .1) (s t .args .m) (at t) (to t) (begins t) (ends t) e)
+
+pub part-spec : {M : Type 1} → statement M
+part-spec =
+    tie.close
+    (tie.spec
+    first-requires
+    first-from-requires
+    width-requires
+    add-first-from
+    first-from-requires-2
+    last-reaches-requires
+    sub-between
+    between-requires
+    returns
+    between-requires-2
+    returns-2)
