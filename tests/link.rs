@@ -1,5 +1,7 @@
 //! The archives' calls, made safe, and their answers read. A slice passes as a pointer and a length.
 
+use crate::model::Op;
+
 #[link(name = "probe", kind = "static")]
 extern "C" {
     fn probe_place(depth: u32, code: u32, answer: *mut u64, len: usize);
@@ -21,6 +23,9 @@ extern "C" {
         answer: *mut u64,
         len: usize,
     );
+    fn probe_join(depth: u32, a: *const u32, a_len: usize, b: *const u32, b_len: usize, out: *mut u32, room: usize, answer: *mut u64, len: usize);
+    fn probe_meet(depth: u32, a: *const u32, a_len: usize, b: *const u32, b_len: usize, out: *mut u32, room: usize, answer: *mut u64, len: usize);
+    fn probe_less(depth: u32, a: *const u32, a_len: usize, b: *const u32, b_len: usize, out: *mut u32, room: usize, answer: *mut u64, len: usize);
 }
 
 #[link(name = "cab", kind = "static")]
@@ -117,4 +122,23 @@ pub fn met(n: usize, room: usize, depth: u32, list: &[u32], code: u32, d: [i32; 
         Ok(found.map_or(0, |a| a.beside[0] as usize))
     })?;
     Ok((found, part))
+}
+
+/// A call that writes a list: the answer, and the codes that it says are written.
+fn wrote(n: usize, room: usize, call: impl FnOnce(*mut u32, *mut u64, usize)) -> Wrote {
+    let mut found = None;
+    let codes = written(room, |out| {
+        found = told(n, |p, len| call(out, p, len))?;
+        Ok(found.map_or(0, |a| if a.number == 0 { a.place as usize } else { 0 }))
+    })?;
+    Ok((found, codes))
+}
+
+pub fn set(op: Op, n: usize, room: usize, depth: u32, a: &[u32], b: &[u32]) -> Wrote {
+    let call = match op {
+        Op::Join => probe_join,
+        Op::Meet => probe_meet,
+        Op::Less => probe_less,
+    };
+    wrote(n, room, |out, p, len| unsafe { call(depth, a.as_ptr(), a.len(), b.as_ptr(), b.len(), out, room, p, len) })
 }

@@ -7,6 +7,7 @@ mod link;
 mod lists;
 mod model;
 mod run;
+mod sets;
 
 use run::Run;
 
@@ -18,6 +19,7 @@ fn main() {
     let mut run = Run::new(seed, cases);
     cells::all(&mut run);
     lists::all(&mut run);
+    sets::all(&mut run);
     println!("{} passed, {} failed", run.passed, run.failed);
     if run.failed > 0 || run.passed == 0 {
         std::process::exit(1);

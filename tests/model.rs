@@ -233,3 +233,41 @@ pub fn met_of(depth: u32, list: &[u32], from: u32, d: [i32; 3]) -> (Answer, std:
     };
     (answer(0, part.start as u64, 0), part)
 }
+
+// ---- join, intersection, difference
+
+#[derive(Clone, Copy, PartialEq, Eq, Debug)]
+pub enum Op {
+    Join,
+    Meet,
+    Less,
+}
+
+/// The voxels of both sets' runs that the operation takes: between any two ends of runs the colours do not change.
+pub fn combined(op: Op, a: &Runs, b: &Runs) -> Runs {
+    let mut ends: Vec<u64> = a.iter().chain(b).flat_map(|r| [r.0, r.1]).collect();
+    ends.sort();
+    ends.dedup();
+    let takes = |v| match op {
+        Op::Join => has(a, v) || has(b, v),
+        Op::Meet => has(a, v) && has(b, v),
+        Op::Less => has(a, v) && !has(b, v),
+    };
+    union(ends.windows(2).filter(|w| takes(w[0])).map(|w| (w[0], w[1])).collect())
+}
+
+/// A result that needs so much room: 8 and nothing, or success and the codes.
+pub fn result(room: usize, list: Vec<u32>) -> (Answer, Vec<u32>) {
+    if list.len() > room {
+        (answer(8, list.len() as u64, 0), Vec::new())
+    } else {
+        (answer(0, list.len() as u64, 0), list)
+    }
+}
+
+pub fn set_of(op: Op, depth: u32, a: &[u32], b: &[u32], room: usize) -> (Answer, Vec<u32>) {
+    if let Some(refused) = refusal(depth, &[a, b]) {
+        return (refused, Vec::new());
+    }
+    result(room, good_list(depth, &combined(op, &black(depth, a), &black(depth, b))))
+}

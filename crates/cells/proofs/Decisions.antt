@@ -1,7 +1,7 @@
 -- How a row of tests decides, and how it is met: where each test refuses with one answer at most and one thing at most holds past them, no second answer fits. Assumes nothing.
 use mathlib.Core.Path.{_≡_, sym, ap, _∙_, subst⁻¹}
 use mathlib.Core.Logic.{inl, inr}
-use mathlib.Core.List.{List, [], _∷_}
+use mathlib.Core.List.{List, [], _∷_, _++_}
 use Prim.Native.Nat.{ℕ, _≤_, _<_}
 use native.Mathlib.Omega.{arith}
 use Rattle.cells.specs.Answer.{Test, Decided, alone, refuses, deepest}
@@ -62,14 +62,21 @@ Numbered (F ∷ Fs) = ((a : Answer) → F a → a .number ≡ 0 → ⊥) × Numb
 pub refuses-numbered : {q : Answer} {C : Type 0} → (q .number ≡ 0 → ⊥) → (a : Answer) → refuses q C a → a .number ≡ 0 → ⊥
 refuses-numbered n a (_, e) z = n (ap (λ (x : Answer). x .number) (sym e) ∙ z)
 
--- so number 0 says that each test passes: what P gives decides another row of the same tests
-pub decided-on : {S : Type 0} (refuse : Answer → S) (Fs : List Test) (P : Answer → Type 0) (Q : S → Type 0) (r : Answer) (s : S)
-    → Numbered Fs → r .number ≡ 0 → (P r → Q s) → Decided alone Fs P r → Decided refuse Fs Q s
-decided-on refuse [] P Q r s of-none z to d = to d
-decided-on refuse (F ∷ Fs) P Q r s (of-f, of-fs) z to (inl (a, t, e)) = absurd (of-f a t (ap (λ (x : Answer). x .number) (sym e) ∙ z))
-decided-on refuse (F ∷ Fs) P Q r s (of-f, of-fs) z to (inr (n, d)) = inr (n, decided-on refuse Fs P Q r s of-fs z to d)
+-- a row of tests, and then another: where the answer r of the first row's call is no success, it is passed on
+pub decided-first : {S : Type 0} (refuse : Answer → S) (Fs Gs : List Test) (P : Answer → Type 0) (Q : S → Type 0) (r : Answer)
+    → (P r → ⊥) → Decided alone Fs P r → Decided refuse (Fs ++ Gs) Q (refuse r)
+decided-first refuse [] Gs P Q r none d = absurd (none d)
+decided-first refuse (F ∷ Fs) Gs P Q r none (inl (a, t, e)) = inl (a, t, ap refuse e)
+decided-first refuse (F ∷ Fs) Gs P Q r none (inr (n, d)) = inr (n, decided-first refuse Fs Gs P Q r none d)
 
--- and that P holds
+-- and where its number is 0, each of its tests passes, and the other row decides
+pub decided-next : {S : Type 0} (refuse : Answer → S) (Fs Gs : List Test) (P : Answer → Type 0) (Q : S → Type 0) (r : Answer) (s : S)
+    → Numbered Fs → r .number ≡ 0 → (P r → Decided refuse Gs Q s) → Decided alone Fs P r → Decided refuse (Fs ++ Gs) Q s
+decided-next refuse [] Gs P Q r s of-none z to d = to d
+decided-next refuse (F ∷ Fs) Gs P Q r s (of-f, of-fs) z to (inl (a, t, e)) = absurd (of-f a t (ap (λ (x : Answer). x .number) (sym e) ∙ z))
+decided-next refuse (F ∷ Fs) Gs P Q r s (of-f, of-fs) z to (inr (n, d)) = inr (n, decided-next refuse Fs Gs P Q r s of-fs z to d)
+
+-- and P holds
 pub decided-holds : (Fs : List Test) (P : Answer → Type 0) (r : Answer) → Numbered Fs → r .number ≡ 0 → Decided alone Fs P r → P r
 decided-holds [] P r of-none z d = d
 decided-holds (F ∷ Fs) P r (of-f, of-fs) z (inl (a, t, e)) = absurd (of-f a t (ap (λ (x : Answer). x .number) (sym e) ∙ z))

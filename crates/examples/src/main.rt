@@ -1,9 +1,11 @@
 // Runs the examples of document 01 and prints a line for each: the call and its inputs, then number, place and list, and what comes beside them.
 mod on_cells;
 mod on_records;
+mod on_sets;
 mod print;
 
 fn main() {
     on_cells::run();
     on_records::run();
+    on_sets::run();
 }

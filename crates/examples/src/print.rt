@@ -55,6 +55,16 @@ pub fn answer(a: Answer) {
     number(a.list as u64);
 }
 
+// The codes that an answer says are written at the front of a buffer: none where it is refused.
+pub fn front(a: Answer, out: &[u32]) {
+    let n = a.place as usize;
+    if a.number == 0 {
+        if n <= out.len() {
+            codes(&out[..n]);
+        }
+    }
+}
+
 pub fn end() {
     text(b"\n");
 }

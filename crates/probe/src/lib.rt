@@ -2,3 +2,4 @@
 mod inner;
 pub mod on_cells;
 pub mod on_records;
+pub mod on_sets;

@@ -20,7 +20,14 @@ pub extern "C" fn probe_place(depth: u32, code: u32, answer: &mut [u64])
     }
     let r = place(depth, code);
     let a = r.answer;
-    tell(answer, a, r.x as u64, r.y as u64, r.z as u64, r.level as u64);
+    tell(
+        answer,
+        a,
+        r.x as u64,
+        r.y as u64,
+        r.z as u64,
+        r.level as u64,
+    );
 }
 
 #[no_mangle]

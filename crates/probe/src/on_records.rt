@@ -38,14 +38,7 @@ pub extern "C" fn probe_volume(depth: u32, list: &[u32], answer: &mut [u64])
 }
 
 #[no_mangle]
-pub extern "C" fn probe_lookup(
-    depth: u32,
-    list: &[u32],
-    x: u32,
-    y: u32,
-    z: u32,
-    answer: &mut [u64],
-)
+pub extern "C" fn probe_lookup(depth: u32, list: &[u32], x: u32, y: u32, z: u32, answer: &mut [u64])
     ensures { λ _. ⌜ Probed (now (answer .entry)) (now (answer .exit) ≡ now (answer .entry))
         ((a : Answer) × LookupOf depth (now (list .entry)) x y z a × (now (answer .exit) ≡ told (now (answer .entry)) a 0 0 0 0)) ⌝ }
 {

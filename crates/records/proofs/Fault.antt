@@ -1,21 +1,20 @@
 -- A list is good just where no index has a fault. Assumes nothing.
 use mathlib.Core.Path.{_≡_, refl, sym, ap, _∙_}
-use mathlib.Core.Bool.{Bool, true, false, not, _&&_, true≢false, and-false}
-use mathlib.Core.Logic.{_⊎_, inl, inr, _↔_}
+use mathlib.Core.Bool.{Bool, true, false, _&&_, true≢false, and-false}
+use mathlib.Core.Logic.{_⊎_, inl, inr}
 use mathlib.Core.List.{List, [], _∷_, List·Memᴰ, List·Memᴰ·head, List·Memᴰ·tail, Memᴰ·cast}
 use Prim.Native.Nat.{ℕ, zero, suc, _+_, _-_, _*_, _/_, _%_, _≤_, _<_, zero-le, suc-le-suc}
 use native.Mathlib.Nat.{le-refl, le-of-suc-le-suc, not-suc-le-zero, eq-or-lt-of-le}
 use native.Mathlib.Omega.{arith}
 use lib.Dec.{leb, ltb, eqb}
 use lib.ListN.{length, getD}
-use borrow.Author.Tests.{ltb-false, le-leb, lt-leb, le-ltb, eqb-true, eq-eqb, ne-eqb, not-false}
+use borrow.Author.Tests.{ltb-false, le-leb, lt-leb, le-ltb, eqb-true, eq-eqb}
 use Rattle.cells.specs.Cell.{level, proper, start, span}
 use Rattle.records.specs.Record.{Ordered, Condensed, Good}
-use Rattle.records.specs.Fault.{allFrom, early, eightAt, numbered, fault, firstFault}
+use Rattle.records.specs.Fault.{allFrom, early, eightAt, numbered, fault}
 use Rattle.cells.proofs.Power.{le-or-lt, pow8-pos}
 use Rattle.cells.proofs.Bools.{both-true, refuted}
 use Rattle.cells.proofs.Cells.{proper-bounds, span-pos, child, parent}
-use Rattle.records.proofs.First.{first-is, first-none, first-miss}
 use Rattle.records.proofs.Fill.{all-true}
 use Rattle.records.proofs.Leaves.{member}
 
@@ -175,28 +174,3 @@ good-faultless D l g i h = rw (member D 0 l (getD l i 0) (g .ordered) (member-at
         go : (7 ≤ i) ⊎ (i < 7) → (leb 7 i && eightAt l (i - 7)) ≡ false
         go (inl k) = rw (none-eight l (i - 7) (g .condensed) (omega arith)) (and-false (leb 7 i))
         go (inr k) = rw (lt-leb 7 i k)
-
--- ---- the first fault
-
--- a number that is not 0, as a test
-some-number : (n : ℕ) → (n ≡ 0 → ⊥) → not (eqb n 0) ≡ true
-some-number n h = ap not (ne-eqb n 0 h)
-
-no-number : (n : ℕ) → n ≡ 0 → not (eqb n 0) ≡ false
-no-number n e = ap not (eq-eqb n 0 e)
-
-pub first-fault-is : (D : ℕ) (l : List ℕ) (i : ℕ) → i < length l → (fault D l i ≡ 0 → ⊥) → ((k : ℕ) → k < i → fault D l k ≡ 0) → firstFault D l ≡ i
-unfolding firstFault
-first-fault-is D l i h f before = first-is _ (length l) i h (some-number (fault D l i) f) (λ k b. no-number (fault D l k) (before k b))
-
-pub first-fault-none : (D : ℕ) (l : List ℕ) → ((k : ℕ) → k < length l → fault D l k ≡ 0) → firstFault D l ≡ length l
-unfolding firstFault
-first-fault-none D l f = first-none _ (length l) (λ k b. no-number (fault D l k) (f k b))
-
-pub before-first-fault : (D : ℕ) (l : List ℕ) (k : ℕ) → k < firstFault D l → fault D l k ≡ 0
-unfolding firstFault
-before-first-fault D l k h = eqb-true (fault D l k) 0 (not-false (eqb (fault D l k) 0) (first-miss (λ i. not (eqb (fault D l i) 0)) (length l) k h))
-
--- no index has a fault just where the list is good
-pub faultless-iff-good : (D : ℕ) (l : List ℕ) → (firstFault D l ≡ length l) ↔ Good D l
-faultless-iff-good D l = (λ e. faultless-good D l (λ i h. before-first-fault D l i (omega arith)), λ g. first-fault-none D l (good-faultless D l g))

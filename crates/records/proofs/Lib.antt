@@ -8,8 +8,9 @@ pub mod Fill
 pub mod OneList
 pub mod Most
 -- a list is good just where no index has a fault; the walk that finds the first
-pub mod First
 pub mod Fault
+pub mod First
+pub mod Rows
 pub mod Walks
 -- counts of voxels; the volume
 pub mod Counting

@@ -1,13 +1,13 @@
--- Which voxels a list holds, and the ordered list's first leaf. Assumes nothing.
+-- Which voxels a list holds, the ordered list's first leaf, and one more leaf at its end. Assumes nothing.
 use mathlib.Core.Path.{_≡_, refl, sym, _∙_}
-use mathlib.Core.Bool.{Bool, true, false, true≢false, false≢true}
+use mathlib.Core.Bool.{true, false, true≢false, false≢true}
 use mathlib.Core.Logic.{_⊎_, inl, inr}
-use mathlib.Core.List.{List, [], _∷_, List·Memᴰ·tail}
-use Prim.Native.Nat.{ℕ, _+_, _^_, _≤_, _<_}
+use mathlib.Core.List.{List, [], _∷_, _++_, List·Memᴰ·tail}
+use Prim.Native.Nat.{ℕ, _+_, _-_, _^_, _≤_, _<_}
 use native.Mathlib.Omega.{arith}
 use lib.Dec.{leb, ltb}
 use borrow.Author.Tests.{leb-true, ltb-true, le-leb, lt-ltb}
-use Rattle.cells.specs.Cell.{start, span, holds}
+use Rattle.cells.specs.Cell.{proper, start, span, holds}
 use Rattle.records.specs.Record.{black, Ordered, Condensed}
 use Rattle.cells.proofs.Power.{le-or-lt}
 use Rattle.cells.proofs.Bools.{both-true, refuted}
@@ -80,3 +80,25 @@ first-leaf D s (c ∷ l) (p, f, o) b = go (le-or-lt (start D c) s)
     go (inl h) = (omega arith, span-pos D c)
     go (inr h) =
         absurd (true≢false (sym b ∙ black-past D c l s (before-cell D c s h) ∙ black-before D (start D c + span D c) l o s (omega arith)))
+
+-- ---- one more leaf
+
+-- a list is ordered with one more leaf that starts where no voxel of the list is black any more
+pub ordered-snoc : (D a b : ℕ) (l : List ℕ) (c : ℕ) → Ordered D a l → ((v : ℕ) → b ≤ v → black D l v ≡ false) → proper D c ≡ true → a ≤ start D c → b ≤ start D c → Ordered D a (l ++ (c ∷ []))
+unfolding Ordered
+ordered-snoc D a b [] c o none p h g = (p, h, tt)
+ordered-snoc D a b (x ∷ l) c (q, f, o) none p h g =
+    (q, f, ordered-snoc D (start D x + span D x) b l c o (λ v k. sym (black-past D x l v (clear v k)) ∙ none v k) p (omega (arith, ends)) g)
+  where
+    clear : (v : ℕ) → b ≤ v → holds D x v ≡ false
+    clear v k = refuted (holds D x v) (λ e. true≢false (sym (black-held D x l v e) ∙ none v k))
+
+    ends : start D x + span D x ≤ b
+    ends = go (le-or-lt (start D x + span D x) b)
+      where
+        last : ℕ
+        last = start D x + span D x - 1
+
+        go : (start D x + span D x ≤ b) ⊎ (b < start D x + span D x) → start D x + span D x ≤ b
+        go (inl k) = k
+        go (inr k) = absurd (true≢false (sym (held D x last (omega (arith, span-pos D x)) (omega (arith, span-pos D x))) ∙ clear last (omega arith)))

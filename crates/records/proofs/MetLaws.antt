@@ -2,7 +2,6 @@
 use mathlib.Core.Path.{_≡_, refl, sym, ap, ap₂, _∙_}
 use mathlib.Core.List.{List}
 use Prim.Native.Nat.{ℕ, _+_, _*_, _≤_, zero-le}
-use native.Mathlib.Omega.{arith}
 use lib.IntN.{ℤ}
 use lib.ListN.{length, take, drop}
 use Rattle.cells.specs.Answer.{given, alone}
@@ -60,6 +59,7 @@ module _ (D : ℕ) (l : List ℕ) (c : ℕ) (dx dy dz : ℤ) where
   -- the part's content, and where it begins in memory; its length is its content's
   pub one-met : (p : ℕ × ℕ) (r s : List ℕ) (a b : ℕ × ℕ) → MetOf D l p c dx dy dz r a → MetOf D l p c dx dy dz s b → (r ≡ s) × (a ≡ b)
   one-met p r s a b x y =
-      let e : _≡_ {A = ℕ × ℕ} (x .at, x .n) (y .at, y .n) = one-part-of (x .at, x .n) (y .at, y .n) (x .part) (y .part) in
-      (x .codes ∙ ap (λ (t : ℕ × ℕ). take (t .1) (drop (t .0) l)) e ∙ sym (y .codes),
-       ap₂ (λ (u v : ℕ). (u, v)) (x .memory ∙ sym (y .memory)) (x .begins ∙ ap (λ (t : ℕ × ℕ). p .1 + t .0 * 4) e ∙ sym (y .begins)))
+      let e : _≡_ {A = ℕ × ℕ} (x .at, x .n) (y .at, y .n) = one-part-of (x .at, x .n) (y .at, y .n) (x .part) (y .part) in (
+        x .codes ∙ ap (λ (t : ℕ × ℕ). take (t .1) (drop (t .0) l)) e ∙ sym (y .codes),
+        ap₂ (λ (u v : ℕ). (u, v)) (x .memory ∙ sym (y .memory)) (x .begins ∙ ap (λ (t : ℕ × ℕ). p .1 + t .0 * 4) e ∙ sym (y .begins)),
+      )

@@ -75,6 +75,11 @@ pub most-leaves : (D : ℕ) (l : List ℕ) → Good D l → length l ≤ most D
 unfolding goodList
 most-leaves D l g = rw (good-list-is D (black D l) l g (λ v h. refl)) (few D (black D l) D 1 0 (root D))
 
+-- so no more than voxels
+pub few-leaves : (D : ℕ) (l : List ℕ) → Good D l → length l ≤ 8 ^ D
+few-leaves zero l g = most-leaves 0 l g
+few-leaves (suc n) l g = omega (arith, most-leaves (suc n) l g, pow8-suc n)
+
 -- at the greatest depth
 pub most-at-deepest : (l : List ℕ) → Good deepest l → length l ≤ 939524096
 most-at-deepest l g = most-leaves deepest l g

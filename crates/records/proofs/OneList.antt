@@ -2,7 +2,8 @@
 use mathlib.Core.Path.{_≡_, sym, _∙_}
 use mathlib.Core.Bool.{Bool, true}
 use mathlib.Core.List.{List}
-use Prim.Native.Nat.{ℕ}
+use mathlib.Core.Logic.{_↔_}
+use Prim.Native.Nat.{ℕ, _^_, _<_}
 use Rattle.records.specs.Record.{black, Good, ListOf}
 use Rattle.cells.proofs.Bools.{same-truth}
 use Rattle.records.proofs.Maximal.{one-good-list}
@@ -19,3 +20,10 @@ one-list D P l m a b = one-good-list (a .good) (b .good) (λ v h. let p = a .exa
 -- a good list is the list of its own voxels
 pub list-of-itself : (D : ℕ) (l : List ℕ) → Good D l → ListOf D (λ v. black D l v ≡ true) l
 list-of-itself D l g = record { good = g; exactly = λ v h. (λ x. x, λ x. x) }
+
+-- the list of a set is that of the same set in other words
+pub list-same : (D : ℕ) (P Q : ℕ → Type 0) (l : List ℕ) → ((v : ℕ) → v < 8 ^ D → P v ↔ Q v) → ListOf D P l → ListOf D Q l
+list-same D P Q l same x = record {
+  good = x .good;
+  exactly = λ v h. let e = x .exactly v h in let f = same v h in (λ b. f .0 (e .0 b), λ q. e .1 (f .1 q));
+}

@@ -6,7 +6,7 @@ use Prim.Native.Nat.{ℕ, _+_, _-_, _≤_, _<_, max}
 use native.Mathlib.Nat.{le-refl, le-antisymm}
 use native.Mathlib.Omega.{arith}
 use lib.ListN.{length, getD}
-use Rattle.cells.specs.Cell.{start, span}
+use Rattle.cells.specs.Cell.{start}
 use Rattle.records.specs.Record.{Ordered}
 use Rattle.records.specs.Met.{Meets, MetPart}
 use Rattle.cells.proofs.Power.{le-or-lt}

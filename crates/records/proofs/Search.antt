@@ -1,14 +1,14 @@
 -- What the search in an ordered list finds: the leaf that may hold a voxel, and the leaves that meet a cell. Assumes nothing.
-use mathlib.Core.Path.{_≡_, refl, sym, ap, _∙_}
+use mathlib.Core.Path.{_≡_, refl, sym, _∙_}
 use mathlib.Core.Bool.{Bool, true, false}
 use mathlib.Core.Logic.{_⊎_, inl, inr}
 use mathlib.Core.List.{List}
-use Prim.Native.Nat.{ℕ, suc, _+_, _-_, _≤_, _<_, zero-le}
+use Prim.Native.Nat.{ℕ, suc, _-_, _≤_, _<_, zero-le}
 use native.Mathlib.Omega.{arith}
 use lib.Dec.{ltb}
 use lib.ListN.{length, getD}
 use borrow.Author.Tests.{ltb-true, lt-ltb, le-ltb}
-use Rattle.cells.specs.Cell.{proper, start, span}
+use Rattle.cells.specs.Cell.{proper, start}
 use Rattle.records.specs.Record.{black, Ordered}
 use Rattle.records.specs.Inner.{Starts, reaches}
 use Rattle.records.specs.Met.{MetPart}
@@ -18,7 +18,7 @@ use Rattle.cells.proofs.Cells.{span-pos}
 use Rattle.records.proofs.Lists.{holds-true, held}
 use Rattle.records.proofs.Leaves.{member, member-black, leaf-of}
 use Rattle.records.proofs.Fault.{end, member-at, index-of, in-order}
-use Rattle.records.proofs.Part.{starts-rise, ends-rise, part-made}
+use Rattle.records.proofs.Part.{ends-rise, part-made}
 
 pub proper-at : (D : ℕ) (l : List ℕ) → Ordered D 0 l → (i : ℕ) → i < length l → proper D (getD l i 0) ≡ true
 proper-at D l o i h = member D 0 l (getD l i 0) o (member-at l i h) .0
@@ -69,10 +69,10 @@ module _ (D : ℕ) (l : List ℕ) (o : Ordered D 0 l) where
           let lo = s .below (at - 1) zero-le (omega arith) in
           sym (member-black D (getD l (at - 1) 0) l v (member-at l (at - 1) i) (held D (getD l (at - 1) 0) v (omega arith) r))
       go false e = sym (refuted (black D l v) (λ b.
-        let (c, m, h) = leaf-of D l v b in
-        let (i, k, f) = index-of c l m in
-        let t = holds-true D c v h in
-        clash (the-last v at i s k (rw f (t .0)) (rw f (t .1))) e))
+          let (c, m, h) = leaf-of D l v b in
+          let (i, k, f) = index-of c l m in
+          let t = holds-true D c v h in
+          clash (the-last v at i s k (rw f (t .0)) (rw f (t .1))) e))
 
   -- ---- the leaves that meet the cell m: `at` is the first that starts in it, or after it, and e the first that starts after it
 

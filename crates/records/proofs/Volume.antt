@@ -1,6 +1,6 @@
 -- The voxels of an ordered list's leaves, added up, are its black voxels; and how many voxels are black in a join, an intersection, a difference and a moved list.
 -- Assumes nothing.
-use mathlib.Core.Path.{_≡_, sym, ap₂, _∙_}
+use mathlib.Core.Path.{_≡_, ap₂, _∙_}
 use mathlib.Core.Bool.{true, false, not, _&&_, _||_, and-false}
 use mathlib.Core.Logic.{_⊎_, inl, inr}
 use mathlib.Core.List.{List, [], _∷_}

@@ -9,9 +9,11 @@ use lib.ListN.{getD, length}
 use Rattle.cells.specs.Cell.{start, span}
 use Rattle.records.specs.Record.{Good}
 use Rattle.records.specs.Fault.{fault, firstFault}
+use Rattle.records.specs.Calls.{CheckOf}
 use Rattle.records.specs.Inner.{volume}
 use Rattle.records.specs.declared.inner.Walk.{Walk}
 use Rattle.records.specs.declared.inner.Verdict.{Verdict}
+use Rattle.records.specs.declared.checks.Survey.{Survey}
 
 -- the last of the first i codes; the voxel number after its leaf; the voxels of the i leaves
 unfoldable pub lastOf : List ℕ → ℕ → ℕ
@@ -60,3 +62,8 @@ pub record Found (D : ℕ) (l : List ℕ) (r : Verdict) : Type 0 where
   pub is-sum : r .number ≡ 0 → r .sum ≡ volume D l
   pub few : r .number ≡ 0 → length l ≤ 8 ^ D
   pub good : r .number ≡ 0 → Good D l
+
+-- and what `check` tells of it, beside its voxels
+pub record Surveyed (D : ℕ) (l : List ℕ) (r : Survey) : Type 0 where
+  pub tells : CheckOf D l (r .answer)
+  pub is-voxels : r .answer .number ≡ 0 → r .voxels ≡ volume D l

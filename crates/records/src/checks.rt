@@ -14,38 +14,59 @@ ghost use lib.ListN.{length};
 ghost use Rattle.cells.specs.Answer.{deepest};
 ghost use Rattle.records.specs.Record.{black, Ordered};
 ghost use Rattle.records.specs.Calls.{CheckOf, inRoot, LookupOf, VolumeOf};
+ghost use Rattle.records.specs.Walk.{Surveyed};
 
-// Whether a list is good: the number of leaves, or 1 for the depth, 2 to 4 for the first fault.
-pub fn check(depth: u32, list: &[u32]) -> Answer
-    ensures { λ r. ⌜ CheckOf depth (now (list .entry)) r ⌝ }
+// What `check` tells of a list, and how many voxels its leaves have, 0 where it is refused.
+struct Survey {
+    answer: Answer,
+    voxels: u32,
+}
+
+// The list judged: 1 for the depth, 2 to 4 for the first fault.
+fn survey_of(depth: u32, list: &[u32]) -> Survey
+    ensures { λ r. ⌜ Surveyed depth (now (list .entry)) r ⌝ }
 {
     if DEEPEST < depth {
-        return refusal(1, 0, 0);
+        return Survey {
+            answer: refusal(1, 0, 0),
+            voxels: 0,
+        };
     }
     let found = judge(depth, list);
     let number = found.number;
     let place = found.place;
     if number != 0 {
-        return refusal(number, place, 1);
+        return Survey {
+            answer: refusal(number, place, 1),
+            voxels: 0,
+        };
     }
-    success(place)
+    Survey {
+        answer: success(place),
+        voxels: found.sum,
+    }
+}
+
+// Whether a list is good: the number of leaves, or 1 for the depth, 2 to 4 for the first fault.
+pub fn check(depth: u32, list: &[u32]) -> Answer
+    ensures { λ r. ⌜ CheckOf depth (now (list .entry)) r ⌝ }
+{
+    let survey = survey_of(depth, list);
+    survey.answer
 }
 
 // How many voxels are black; refused as `check` is.
 pub fn volume(depth: u32, list: &[u32]) -> Answer
     ensures { λ r. ⌜ VolumeOf depth (now (list .entry)) r ⌝ }
 {
-    if DEEPEST < depth {
-        return refusal(1, 0, 0);
-    }
-    let found = judge(depth, list);
-    let number = found.number;
-    let place = found.place;
+    let survey = survey_of(depth, list);
+    let answer = survey.answer;
+    let number = answer.number;
     if number != 0 {
-        return refusal(number, place, 1);
+        return answer;
     }
-    let sum = found.sum;
-    success(sum as u64)
+    let voxels = survey.voxels;
+    success(voxels as u64)
 }
 
 // Whether the voxel x, y, z lies in the root.
@@ -76,14 +97,11 @@ fn is_black(depth: u32, list: &[u32], n: u32, v: u32) -> bool
 pub fn lookup(depth: u32, list: &[u32], x: u32, y: u32, z: u32) -> Answer
     ensures { λ r. ⌜ LookupOf depth (now (list .entry)) x y z r ⌝ }
 {
-    if DEEPEST < depth {
-        return refusal(1, 0, 0);
-    }
-    let found = judge(depth, list);
-    let number = found.number;
-    let place = found.place;
+    let listed = check(depth, list);
+    let number = listed.number;
+    let place = listed.place;
     if number != 0 {
-        return refusal(number, place, 1);
+        return listed;
     }
     if !in_root(depth, x, y, z) {
         return refusal(6, 0, 0);

@@ -1,11 +1,9 @@
 // The leaves of a list that meet a neighbour cell: `met` gives them, `met_at` tells where they begin.
+use crate::checks::check;
 use crate::inner::first_from;
-use crate::inner::judge;
 use crate::inner::last_reaches;
 use cells::Answer;
-use cells::DEEPEST;
 use cells::inner::first;
-use cells::inner::refusal;
 use cells::inner::success;
 use cells::inner::width;
 use cells::neighbours::neighbour;
@@ -64,25 +62,22 @@ fn part(depth: u32, list: &[u32], n: u32, m: u32) -> Meeting
     between(at, end)
 }
 
-// The neighbour, and the leaves that meet it: 1 for the depth, 2 to 4 for the list, then as `neighbour` is refused.
+// The neighbour, and the leaves that meet it: refused as `check` is, then as `neighbour` is.
 fn find(depth: u32, list: &[u32], code: u32, dx: i32, dy: i32, dz: i32) -> Meeting
     ensures { λ r. ⌜ MeetingOf depth (now (list .entry)) code dx dy dz r ⌝ }
 {
-    if DEEPEST < depth {
-        return none(refusal(1, 0, 0));
-    }
-    let found = judge(depth, list);
-    let number = found.number;
-    let place = found.place;
+    let listed = check(depth, list);
+    let number = listed.number;
+    let place = listed.place;
     if number != 0 {
-        return none(refusal(number, place, 1));
+        return none(listed);
     }
     let next = neighbour(depth, code, dx, dy, dz);
     let refused = next.number;
+    let m = next.place;
     if refused != 0 {
         return none(next);
     }
-    let m = next.place;
     part(depth, list, place as u32, m as u32)
 }
 

@@ -1,7 +1,7 @@
 -- `records::checks::in_root` meets its contract. Assumes nothing.
-use mathlib.Core.Path.{_≡_, sym, ap, _∙_}
-use mathlib.Core.Bool.{false, and-false}
-use Prim.Native.Nat.{ℕ, _^_}
+use mathlib.Core.Path.{sym, ap}
+use mathlib.Core.Bool.{and-false}
+use Prim.Native.Nat.{_^_}
 use native.Mathlib.Omega.{arith}
 use lib.Dec.{ltb}
 use borrow.Author.Needs.{needs}

@@ -1,7 +1,6 @@
 -- `records::checks::is_black` meets its contract. Assumes nothing.
 use mathlib.Core.Path.{_∙_}
 use native.Mathlib.Omega.{arith}
-use borrow.Author.Needs.{needs}
 use Rattle.cells.proofs.Words.{pow8-small}
 use Rattle.records.proofs.Search.{starts-same, black-last}
 use Rattle.records.proofs.checks.is_black.Statement.{statement}

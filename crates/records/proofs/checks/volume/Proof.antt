@@ -1,31 +1,31 @@
--- `records::checks::volume` meets its contract: the walk's sum is the number of black voxels. Assumes nothing.
-use mathlib.Core.Path.{_≡_, refl, sym, ap, _∙_}
-use mathlib.Core.Logic.{inl, inr}
+-- `records::checks::volume` meets its contract: the voxels of the leaves are the black ones. Assumes nothing.
+use mathlib.Core.Path.{_≡_, sym, ap, _∙_}
+use mathlib.Core.List.{[]}
+use Prim.Native.Nat.{_^_}
 use borrow.Author.Needs.{needs}
-use Rattle.cells.specs.Answer.{given}
-use Rattle.cells.proofs.Decisions.{passes, deep-enough}
-use Rattle.records.proofs.Volume.{list-volume}
-use Rattle.records.proofs.Walks.{found-refuses, found-passes}
+use Rattle.cells.specs.Answer.{given, alone}
+use Rattle.cells.specs.declared.Answer.{Answer}
+use Rattle.records.proofs.CallLaws.{check-first, check-next, checked}
+use Rattle.records.proofs.Volume.{blacks, list-volume}
 use Rattle.records.proofs.checks.volume.Statement.{statement}
 use Rattle.records.proofs.checks.volume.Tie as tie
 
-refusal-requires : tie.Need-refusal-requires
-refusal-requires c κs = search needs
+module _ (c : tie.After-answer) where
+  abbrev s : tie.Start
+  s = c .before .before .before
+
+  abbrev Told : Answer → Type 0
+  Told r = r ≡ given (blacks (s .args .depth) (s .args .list .now))
+
+survey-of-requires : tie.Need-survey-of-requires
+survey-of-requires c κs = search needs
 
 returns : tie.Need-returns
-returns c = inl (_, (c .before .if1 .taken, refl), c .refusal .ensures)
-
-judge-requires : tie.Need-judge-requires
-judge-requires c κs = search needs
-
-refusal-requires-2 : tie.Need-refusal-requires-2
-refusal-requires-2 c κs = search needs
-
-returns-2 : tie.Need-returns-2
-returns-2 c =
-    let q = c .before .before in
-    let a = q .before .before .before .args in
-    inr (passes (deep-enough (q .before .if1 .left)), inl (_, found-refuses (a .depth) (a .list .now) (q .judge .result) (q .judge .ensures) 1 (c .before .if2 .taken), c .refusal2 .ensures))
+returns c =
+    let t = c .before in
+    let a = s t .args in
+    let r = t .before .survey-of in
+    check-first (a .depth) (a .list .now) (r .result .answer) (r .ensures .tells) alone [] (Told t) (c .if1 .taken)
 
 cast-success : tie.Need-cast-success
 cast-success c = search needs
@@ -33,20 +33,16 @@ cast-success c = search needs
 success-requires : tie.Need-success-requires
 success-requires c κs = search needs
 
-returns-3 : tie.Need-returns-3
-returns-3 c =
-    let q = c .before .before in
-    let a = q .before .before .before .args in
-    let e = q .judge .ensures in
-    let z : q .judge .result .number ≡ 0 = search needs in
-    inr (
-      passes (deep-enough (q .before .if1 .left)),
-      inr (
-        passes (found-passes (a .depth) (a .list .now) (q .judge .result) e z),
-        c .success .ensures ∙ ap given (e .is-sum z ∙ sym (list-volume (a .depth) 0 (a .list .now) (e .good z .ordered))),
-      ),
-    )
+returns-2 : tie.Need-returns-2
+returns-2 c =
+    let t = c .before .before in
+    let a = s t .args in
+    let r = t .before .survey-of in
+    let z : r .result .answer .number ≡ 0 = search needs in
+    let k = checked (a .depth) (a .list .now) (r .result .answer) (r .ensures .tells) z in
+    check-next (a .depth) (a .list .now) (r .result .answer) (r .ensures .tells) alone [] (Told t) _ z
+    (c .success .ensures ∙ ap given (r .ensures .is-voxels z ∙ sym (list-volume (a .depth) 0 (a .list .now) (k .good .ordered))))
 
 pub volume-spec : {M : Type 1} → statement M
 volume-spec =
-    tie.close (tie.spec refusal-requires returns judge-requires refusal-requires-2 returns-2 cast-success success-requires returns-3)
+    tie.close (tie.spec survey-of-requires returns cast-success success-requires returns-2)

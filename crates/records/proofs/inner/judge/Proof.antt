@@ -1,6 +1,6 @@
 -- `records::inner::judge` meets its contract. The loop's invariant: `walk` is what is kept of the first i leaves, which have no fault. Assumes nothing.
 use mathlib.Core.Path.{refl, subst}
-use Prim.Native.Nat.{ℕ, suc, _+_, _-_, _≤_}
+use Prim.Native.Nat.{ℕ, _-_, _≤_}
 use native.Mathlib.Omega.{arith}
 use lib.ListN.{length}
 use borrow.Author.Needs.{needs}

@@ -2,7 +2,7 @@
 use mathlib.Core.Path.{sym}
 use native.Mathlib.Omega.{arith}
 use borrow.Author.Needs.{needs}
-use Rattle.records.proofs.Walks.{next-one, next-more, next-none, next-cut}
+use Rattle.records.proofs.Rows.{next-one, next-more, next-none, next-cut}
 use Rattle.records.proofs.inner.next_run.Statement.{statement}
 use Rattle.records.proofs.inner.next_run.Tie as tie
 

@@ -1,7 +1,7 @@
 -- `records::inner::step` meets its contract: each test is the fault's own, on what is kept of the leaves before. Assumes nothing.
-use mathlib.Core.Path.{_≡_, refl, sym, ap, _∙_}
+use mathlib.Core.Path.{_≡_, refl, sym, _∙_}
 use mathlib.Core.Bool.{true}
-use Prim.Native.Nat.{ℕ, _+_, _≤_, _<_, _^_}
+use Prim.Native.Nat.{_+_, _≤_, _<_, _^_}
 use native.Mathlib.Omega.{arith}
 use borrow.Author.Needs.{needs}
 use borrow.Author.Tests.{not-true, not-false}
@@ -9,7 +9,6 @@ use Rattle.cells.specs.Answer.{deepest}
 use Rattle.cells.specs.Cell.{proper, start, span}
 use Rattle.cells.proofs.Cells.{within}
 use Rattle.cells.proofs.Words.{pow8-small}
-use Rattle.records.specs.Walk.{nextRun}
 use Rattle.records.proofs.Walks.{improper, too-early, eighth, stops, goes}
 use Rattle.records.proofs.inner.step.Statement.{statement}
 use Rattle.records.proofs.inner.step.Tie as tie

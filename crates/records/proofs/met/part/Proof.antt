@@ -1,8 +1,8 @@
 -- `records::met::part` meets its contract. Assumes nothing.
 use mathlib.Core.Path.{_≡_, refl, sym, ap, _∙_}
-use mathlib.Core.Bool.{true, false}
+use mathlib.Core.Bool.{true}
 use mathlib.Core.List.{List}
-use Prim.Native.Nat.{ℕ, _+_, _-_, _≤_, _<_}
+use Prim.Native.Nat.{ℕ, _-_, _<_}
 use native.Mathlib.Omega.{arith}
 use lib.ListN.{length}
 use borrow.Author.Needs.{needs}
@@ -37,7 +37,7 @@ first-from-requires-2 : tie.Need-first-from-requires-2
 first-from-requires-2 c κs =
     let s = c .before .before .before .before in
     let f = c .before .first-from .ensures in
-    (s .pre .0, s .pre .1, f .high, omega (arith, s .pre .2))
+    (s .pre .0, s .pre .1, omega (arith, f .high), omega (arith, f .high, s .pre .2))
 
 last-reaches-requires : tie.Need-last-reaches-requires
 last-reaches-requires c κs =

@@ -1,0 +1,64 @@
+-- Laws of a call that writes all of a good list or nothing: a pass that only counts, and one that writes, give its answer, and no second answer fits.
+-- P is the set as the emitter was fed, Q the same set in the words of the call. Assumes nothing.
+use mathlib.Core.Path.{_≡_, refl, sym, ap, ap₂, _∙_}
+use mathlib.Core.Logic.{inl, inr, _↔_}
+use mathlib.Core.List.{List, [], _∷_, _++_}
+use mathlib.Core.Bool.{Bool, true, false}
+use Prim.Native.Nat.{ℕ, _^_, _<_, _≤_}
+use native.Mathlib.Omega.{arith}
+use lib.ListN.{length, drop}
+use Rattle.cells.specs.Answer.{answer, given, Decided, keeping}
+use Rattle.cells.specs.declared.Answer.{Answer}
+use Rattle.cells.proofs.Decisions.{One}
+use Rattle.records.specs.Record.{ListOf}
+use Rattle.records.proofs.OneList.{one-list, list-same}
+use Rattle.emit.specs.Inner.{puts, Result}
+use Rattle.emit.specs.Writing.{Crowded, Written}
+use Rattle.emit.proofs.Puts.{puts-front}
+
+-- the last test of a call and its success, past all other tests
+abbrev pub Told : ℕ → (ℕ → Type 0) → List ℕ → Answer × List ℕ → Type 0
+Told D Q o = Decided (keeping o) (Crowded D Q o ∷ []) (Written D Q o)
+
+-- the list decides: there is too little room for it, or it is written
+module _ (D : ℕ) (Q : ℕ → Type 0) (o l : List ℕ) (x : ListOf D Q l) where
+  pub told-crowded : length o < length l → Told D Q o (answer 8 (length l) 0, o)
+  told-crowded h = inl (answer 8 (length l) 0, (l, x, h, refl), refl)
+
+  pub told-written : length l ≤ length o → Told D Q o (given (length l), l ++ drop (length l) o)
+  told-written h = inr (λ a c. omega (arith, c .2, ap length (one-list D Q l (c .0) x (c .1))), (l, x, refl, refl))
+
+-- ---- two passes of an emitter
+
+module _ (D : ℕ) (P : ℕ → Bool) (Q : ℕ → Type 0) (exactly : (v : ℕ) → v < 8 ^ D → (P v ≡ true) ↔ Q v) where
+  -- what is put is the list of the voxels that have Q
+  pub result-list : {write : Bool} {o out : List ℕ} {n : ℕ} (x : Result D P write o out n) → ListOf D Q (x .cells)
+  result-list x = list-same D (λ v. P v ≡ true) Q (x .cells) exactly (record { good = x .good; exactly = λ v h. let e = x .same v h in (λ b. sym e ∙ b, λ p. e ∙ p) })
+
+  module _ (o out : List ℕ) (n : ℕ) (counted : Result D P false o out n) where
+    -- the pass that only counts finds too little room
+    pub crowded : length out < n → Told D Q o (answer 8 n 0, out)
+    crowded h =
+        let kept : out ≡ o = counted .written in
+        rw (counted .count, kept) (told-crowded D Q o (counted .cells) (result-list counted) (omega (arith, counted .count, ap length kept)))
+
+    -- it finds room, and the second pass writes
+    pub written : (out′ : List ℕ) (n′ : ℕ) → n ≤ length out → Result D P true out out′ n′ → Told D Q o (given n′, out′)
+    written out′ n′ h wrote =
+        let l : List ℕ = wrote .cells in
+        let kept : out ≡ o = counted .written in
+        let same : counted .cells ≡ l = one-list D Q _ _ (result-list counted) (result-list wrote) in
+        let room : length l ≤ length o = omega (arith, ap length same, ap length kept, counted .count) in
+        let front : out′ ≡ l ++ drop (length l) o = wrote .written ∙ ap (λ (b : List ℕ). puts true b 0 l) kept ∙ puts-front o l room in
+        rw (wrote .count, front) (told-written D Q o l (result-list wrote) room)
+
+-- ---- no second answer fits
+
+module _ (D : ℕ) (Q : ℕ → Type 0) (o : List ℕ) where
+  pub one-crowded : One (Crowded D Q o)
+  one-crowded a b (l, x, _, e) (m, y, _, f) = e ∙ ap (λ (n : List ℕ). answer 8 (length n) 0) (one-list D Q l m x y) ∙ sym f
+
+  pub one-written : One (Written D Q o)
+  one-written r s (l, x, e, f) (m, y, g, h) =
+      let same : l ≡ m = one-list D Q l m x y in
+      ap₂ (λ (a : Answer) (b : List ℕ). (a, b)) (e ∙ ap (λ (n : List ℕ). given (length n)) same ∙ sym g) (f ∙ ap (λ (n : List ℕ). n ++ drop (length n) o) same ∙ sym h)

@@ -1,0 +1,6 @@
+-- The laws of the emitter, from the bottom up:
+-- codes put into a buffer; the cells of a run and the emitter's state; writers
+pub mod Puts
+pub mod Runs
+-- what a call answers that writes all of a good list or nothing
+pub mod Answers

@@ -1,0 +1,86 @@
+-- `emit::inner::fit` meets its contract. The loop's invariant: w is a power of 8 that divides p, and [p, p + w) ends by `to`. Assumes nothing.
+use mathlib.Core.Path.{_≡_, refl, sym, ap, _∙_}
+use Prim.Native.Nat.{ℕ, suc, _+_, _-_, _*_, _/_, _%_, _^_, _≤_, _<_}
+use native.Mathlib.Nat.{pow-suc, mul-mod-left, div-add-mod', mul-comm, mul-one}
+use native.Mathlib.Omega.{arith}
+use borrow.Author.Needs.{needs}
+use Rattle.emit.specs.Inner.{Fit}
+use Rattle.cells.proofs.Power.{pow8-pos}
+use Rattle.emit.proofs.inner.fit.Statement.{statement}
+use Rattle.emit.proofs.inner.fit.Tie as tie
+
+-- Fit without its last part
+record Fits (p to w : ℕ) : Type 0 where
+  k : ℕ
+  q : ℕ
+  wide : w ≡ 8 ^ k
+  even : p ≡ q * w
+  fits : p + w ≤ to
+
+some : {p to w : ℕ} → Fits p to w → 0 < w
+some f = omega (arith, pow8-pos (f .k), f .wide)
+
+-- the last part makes it a Fit
+most-fits : (p to w : ℕ) → Fits p to w → ((m : ℕ) → p ≡ m * (8 * w) → p + 8 * w ≤ to → ⊥) → Fit p to w
+most-fits p to w f h = record { k = f .k; q = f .q; wide = f .wide; even = f .even; fits = f .fits; most = h }
+
+abbrev Inv-loop : tie.InvT-loop
+Inv-loop p to room w₀ w = Fits p to w
+
+abbrev μ-loop : tie.MeasureT-loop
+μ-loop p to room w₀ w = to - w
+
+sub-room : tie.Need-sub-room Inv-loop μ-loop
+sub-room c = search needs
+
+loop-holds : tie.Need-loop-holds Inv-loop μ-loop
+loop-holds c = record { k = 0; q = c .args .p; wide = refl; even = sym (mul-one (c .args .p)); fits = omega arith }
+
+mul-next : tie.Need-mul-next Inv-loop μ-loop
+mul-next c = omega arith
+
+rem-if1 : tie.Need-rem-if1 Inv-loop μ-loop
+rem-if1 c = omega (arith, some (c .before .loop .inv))
+
+returns : tie.Need-returns Inv-loop μ-loop
+returns c =
+    let a = c .before .before .before .args in
+    let w = c .before .before .loop .w in
+    most-fits (a .p) (a .to) w (c .before .before .loop .inv)
+    (λ m e g. c .if1 .taken (ap (λ (n : ℕ). n % (w * 8)) (e ∙ ap (λ (n : ℕ). m * n) (mul-comm 8 w)) ∙ mul-mod-left m (w * 8)))
+
+loop-less : tie.Need-loop-less Inv-loop μ-loop
+loop-less c = omega (arith, some (c .before .before .loop .inv))
+
+loop-again : tie.Need-loop-again Inv-loop μ-loop
+loop-again c =
+    let a = c .before .before .before .args in
+    let w = c .before .before .loop .w in
+    let f = c .before .before .loop .inv in
+    record {
+      k = suc (f .k);
+      q = a .p / (w * 8);
+      wide = ap (λ (n : ℕ). n * 8) (f .wide) ∙ sym (pow-suc 8 (f .k));
+      even = omega (arith, div-add-mod' (a .p) (w * 8), c .if1 .left);
+      fits = omega arith;
+    }
+
+returns-2 : tie.Need-returns-2 Inv-loop μ-loop
+returns-2 c =
+    let a = c .before .before .args in
+    most-fits (a .p) (a .to) (c .before .loop .w) (c .before .loop .inv) (λ m e g. omega arith)
+
+pub fit-spec : {M : Type 1} → statement M
+fit-spec =
+    tie.close
+    (tie.spec
+    Inv-loop
+    μ-loop
+    sub-room
+    loop-holds
+    mul-next
+    rem-if1
+    returns
+    loop-less
+    loop-again
+    returns-2)

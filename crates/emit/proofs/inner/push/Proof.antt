@@ -1,0 +1,57 @@
+-- `emit::inner::push` meets its contract: a white piece, a black one that goes on with the pending run, a black one after it. Assumes nothing.
+use mathlib.Core.Path.{_∙_, subst}
+use Prim.Native.Nat.{ℕ}
+use native.Mathlib.Omega.{arith}
+use lib.Arith.{lt-of-le-ne}
+use borrow.Author.Needs.{needs}
+use borrow.Author.Tests.{not-true, not-false}
+use Rattle.emit.specs.Inner.{Emitted}
+use Rattle.emit.proofs.Runs.{fed-white, emit-black}
+use Rattle.emit.proofs.inner.push.Statement.{statement}
+use Rattle.emit.proofs.inner.push.Tie as tie
+
+returns : tie.Need-returns
+returns c = λ P colour.
+    let s = c .before .before in
+    let a = s .args in
+    fed-white (a .depth) P (a .write) (a .from) (a .to) (a .out .now) (a .r) (omega (arith, s .pre .2)) (s .pre .3)
+    (λ v x y. colour v x y ∙ not-true (a .black) (c .if1 .taken))
+    (s .pre .1)
+
+returns-2 : tie.Need-returns-2
+returns-2 c = λ P colour.
+    let s = c .before .before .before .before in
+    let a = s .args in
+    let h = s .pre .1 in
+    record {
+      ready = record { run = omega (arith, h .run, h .past, s .pre .2); past = omega arith; few = h .few; root = s .pre .3 };
+      emits = λ o e.
+          emit-black (a .depth) P (a .write) o (a .out .now) (a .from) (a .to) (a .r .from) (a .r .at)
+          (λ v x y. colour v x y ∙ not-false (a .black) (c .before .before .if1 .left))
+          (subst (λ (x : ℕ). Emitted (a .depth) P (a .write) o (a .out .now) (a .from) (record { from = a .r .from; to = x; at = a .r .at })) (c .if2 .taken) e);
+    }
+
+flush-requires : tie.Need-flush-requires
+flush-requires c κs =
+    let s = c .before .before .before .before .before in
+    (s .pre .0, s .pre .1, λ _. lt-of-le-ne (s .pre .1 .past) (c .before .if2 .left))
+
+same-length : tie.Need-same-length
+same-length c = search needs
+
+returns-3 : tie.Need-returns-3
+returns-3 c = λ P colour.
+    let s = c .before .before .before .before .before .before .before .before in
+    let a = s .args in
+    let f = c .before .before .flush in
+    let x = f .ensures P in
+    record {
+      ready = record { run = omega (arith, s .pre .2); past = omega arith; few = omega (arith, x .ready .few); root = s .pre .3 };
+      emits = λ o e.
+          emit-black (a .depth) P (a .write) o (f .last .1 .1 .1 .0) (a .from) (a .to) (a .from) (f .result)
+          (λ v x y. colour v x y ∙ not-false (a .black) (c .before .before .before .before .before .before .if1 .left))
+          (x .emits o e);
+    }
+
+pub push-spec : {M : Type 1} → statement M
+push-spec = tie.close (tie.spec returns returns-2 flush-requires same-length returns-3)

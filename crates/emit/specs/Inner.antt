@@ -1,0 +1,68 @@
+-- INNER: for the contracts of the emitter and of the writers that feed it. P is any set of voxels, by their numbers. Definitions only.
+use mathlib.Core.Path.{_≡_}
+use mathlib.Core.List.{List, List·Memᴰ}
+use mathlib.Core.Bool.{Bool, true, false}
+use Prim.Native.Nat.{ℕ, _+_, _*_, _^_, _<_, _≤_}
+use lib.ListN.{length}
+use lib.Seq.{sets}
+use Rattle.cells.specs.Cell.{holds}
+use Rattle.records.specs.Record.{black, Ordered, Good}
+use Rattle.emit.specs.declared.inner.Runs.{Runs}
+
+-- the codes l stored from place n on, where they are to be written; a place past the end changes nothing
+abbrev pub puts : Bool → List ℕ → ℕ → List ℕ → List ℕ
+puts true out n l = sets out n l
+puts false out n l = out
+
+-- w is the span of the biggest cell that starts at p and ends at or before `to`
+pub record Fit (p to w : ℕ) : Type 0 where
+  pub k : ℕ
+  pub q : ℕ
+  pub wide : w ≡ 8 ^ k
+  pub even : p ≡ q * w
+  pub fits : p + w ≤ to
+  pub most : (m : ℕ) → p ≡ m * (8 * w) → p + 8 * w ≤ to → ⊥
+
+-- the cell q has a white voxel
+pub record White (D : ℕ) (P : ℕ → Bool) (q : ℕ) : Type 0 where
+  pub voxel : ℕ
+  pub inside : holds D q voxel ≡ true
+  pub white : P voxel ≡ false
+
+-- the pending run [from, to) lies before voxel pos, and no more codes than voxels stand before it
+pub record Ready (D : ℕ) (r : Runs) (pos : ℕ) : Type 0 where
+  pub run : r .from ≤ r .to
+  pub past : r .to ≤ pos
+  pub few : r .at ≤ r .from
+  pub root : pos ≤ 8 ^ D
+
+-- no pending run at pos, after n codes
+abbrev pub fresh : ℕ → ℕ → Runs
+fresh pos n = record { from = pos; to = pos; at = n }
+
+-- The emitter's state where P is known below pos: the codes `cells` are put over o, and hold the voxels of P below `from`;
+-- [from, to) is black and [to, pos) white; the parent of each first child among the codes has a white voxel.
+pub record Emitted (D : ℕ) (P : ℕ → Bool) (write : Bool) (o out : List ℕ) (pos : ℕ) (r : Runs) : Type 0 where
+  pub cells : List ℕ
+  pub ordered : Ordered D 0 cells
+  pub below : (v : ℕ) → v < r .from → black D cells v ≡ P v
+  pub above : (v : ℕ) → r .from ≤ v → black D cells v ≡ false
+  pub run : (v : ℕ) → r .from ≤ v → v < r .to → P v ≡ true
+  pub gap : (v : ℕ) → r .to ≤ v → v < pos → P v ≡ false
+  pub capped : (q : ℕ) → List·Memᴰ (8 * q) cells → White D P q
+  pub count : r .at ≡ length cells
+  pub written : out ≡ puts write o 0 cells
+
+-- What any writer does that goes through the voxels from `from` up to `to` and feeds the emitter with P's colours there: it takes the state r to s.
+-- Writers one after the other make one writer; `finish` ends them all.
+pub record Fed (D : ℕ) (P : ℕ → Bool) (write : Bool) (from to : ℕ) (out : List ℕ) (r : Runs) (out′ : List ℕ) (s : Runs) : Type 0 where
+  pub ready : Ready D s to
+  pub emits : (o : List ℕ) → Emitted D P write o out from r → Emitted D P write o out′ to s
+
+-- the end: the good list of the voxels of P is put over o, and n is its length
+pub record Result (D : ℕ) (P : ℕ → Bool) (write : Bool) (o out : List ℕ) (n : ℕ) : Type 0 where
+  pub cells : List ℕ
+  pub good : Good D cells
+  pub same : (v : ℕ) → v < 8 ^ D → black D cells v ≡ P v
+  pub count : n ≡ length cells
+  pub written : out ≡ puts write o 0 cells

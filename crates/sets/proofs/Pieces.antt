@@ -1,0 +1,93 @@
+-- Laws of the two lists together: pieces of one colour in both, and the jump over what is white in both. Assumes nothing.
+use mathlib.Core.Path.{_≡_, refl, ap₂, _∙_}
+use mathlib.Core.Logic.{_⊎_, inl, inr, ⊎-elim, _↔_}
+use mathlib.Core.List.{List}
+use mathlib.Core.Bool.{Bool, true, false, false≢true}
+use Prim.Native.Nat.{ℕ, _^_, _<_, _≤_, min, max}
+use native.Mathlib.Omega.{arith}
+use Rattle.cells.proofs.Power.{le-or-lt}
+use Rattle.records.specs.Record.{black}
+use Rattle.emit.specs.declared.inner.Runs.{Runs}
+use Rattle.emit.specs.Inner.{fresh, Fed}
+use Rattle.emit.proofs.Runs.{fed-white, fed-then}
+use Rattle.sets.specs.declared.Op.{Op}
+use Rattle.sets.specs.declared.Op.the-variants.{Join, Meet, Less}
+use Rattle.sets.specs.declared.inner.Cursor.{Cursor}
+use Rattle.sets.specs.declared.inner.Side.{Side}
+use Rattle.sets.specs.Sets.{Takes, Taken}
+use Rattle.sets.specs.Inner.{taken, both, Points, Steady}
+use Rattle.sets.proofs.Cursors.{points-later}
+
+-- what is white in both lists is white in the result
+taken-none : (op : Op) → taken op false false ≡ false
+taken-none Join = refl
+taken-none Meet = refl
+taken-none Less = refl
+
+-- the test of a voxel's colours says what the result takes
+takes-is : (op : Op) (a b : Bool) → (taken op a b ≡ true) ↔ Takes op (a ≡ true) (b ≡ true)
+takes-is Join true b = (λ e. inl refl, λ t. refl)
+takes-is Join false true = (λ e. inr refl, λ t. refl)
+takes-is Join false false = (λ e. inl e, λ t. ⊎-elim (λ e. e) (λ e. e) t)
+takes-is Meet true true = (λ e. (refl, refl), λ t. refl)
+takes-is Meet true false = (λ e. (refl, e), λ t. t .1)
+takes-is Meet false b = (λ e. absurd (false≢true e), λ t. t .0)
+takes-is Less true true = (λ e. absurd (false≢true e), λ t. absurd (t .1 refl))
+takes-is Less true false = (λ e. (refl, false≢true), λ t. refl)
+takes-is Less false b = (λ e. absurd (false≢true e), λ t. t .0)
+
+module _ (op : Op) (D : ℕ) (a b : List ℕ) where
+  pub exactly : (v : ℕ) → v < 8 ^ D → (both op D a b v ≡ true) ↔ Taken op D a b v
+  unfolding both
+  exactly v h = takes-is op (black D a v) (black D b v)
+
+  -- [v, next) is of one colour in both lists, and each leaf reaches its end
+  pub record Piece (x y : Cursor) (v : ℕ) (s t : Bool) (next : ℕ) : Type 0 where
+    pub some : v < next
+    pub root : next ≤ 8 ^ D
+    pub same : (w : ℕ) → v ≤ w → w < next → both op D a b w ≡ taken op s t
+    pub left : next ≤ x .to
+    pub right : next ≤ y .to
+
+  pub piece : (x y : Cursor) (v : ℕ) (s t : Side) (next : ℕ) → Points D a x v → Steady D a x v s → Steady D b y v t → next ≡ min (s .until) (t .until) → Piece x y v (s .black) (t .black) next
+  unfolding both
+  piece x y v s t next p f g e = record {
+    some = omega (arith, f .some, g .some);
+    root = omega (arith, f .reach, p .behind .root);
+    same = λ w h k. ap₂ (taken op) (f .same w h (omega arith)) (g .same w h (omega arith));
+    left = omega (arith, f .reach);
+    right = omega (arith, g .reach);
+  }
+
+  -- the sweep's state at voxel v
+  pub record Swept (write : Bool) (o : List ℕ) (out : List ℕ) (r : Runs) (x y : Cursor) (v : ℕ) : Type 0 where
+    pub fed : Fed D (both op D a b) write 0 v o (fresh 0 0) out r
+    pub left : Points D a x v
+    pub right : Points D b y v
+
+  -- over what is white in both lists
+  pub jump : (write : Bool) (o out : List ℕ) (r : Runs) (x y : Cursor) (v w : ℕ) → w ≡ max v (min (x .from) (y .from)) → Swept write o out r x y v → Swept write o out r x y w
+  unfolding both
+  jump write o out r x y v w e s = record {
+    fed = fed-then D (both op D a b) write (s .fed) (fed-white D (both op D a b) write v w out r (omega arith) (omega (arith, s .fed .ready .root, p .order, p .behind .root)) white (s .fed .ready));
+    left = points-later D a x v p w (omega arith) (reached p (omega arith));
+    right = points-later D b y v q w (omega arith) (reached q (omega arith));
+  }
+    where
+      p : Points D a x v
+      p = s .left
+
+      q : Points D b y v
+      q = s .right
+
+      white : (u : ℕ) → v ≤ u → u < w → both op D a b u ≡ false
+      white u h k = ap₂ (taken op) (p .before u h (omega arith)) (q .before u h (omega arith)) ∙ taken-none op
+
+      -- the jump goes no further than each leaf
+      reached : {l : List ℕ} {c : Cursor} → Points D l c v → min (x .from) (y .from) ≤ c .from → w < 8 ^ D → w < c .to
+      reached {l} {c} t m h = go (le-or-lt w v) (le-or-lt (8 ^ D) (c .from))
+        where
+          go : (w ≤ v) ⊎ (v < w) → (8 ^ D ≤ c .from) ⊎ (c .from < 8 ^ D) → w < c .to
+          go (inl k) g = omega (arith, t .ahead (omega arith))
+          go (inr k) (inl g) = omega (arith, t .order)
+          go (inr k) (inr g) = omega (arith, t .some g)

@@ -1,0 +1,83 @@
+-- `sets::inner::load` meets its contract: past the last leaf, at a leaf, whose code times its span is its start, counted from the root's voxels on. Assumes nothing.
+use mathlib.Core.Path.{_≡_, ap, _∙_}
+use Prim.Native.Nat.{ℕ, _+_, _*_, _^_, _≤_, _<_}
+use native.Mathlib.Omega.{arith}
+use lib.ListN.{getD}
+use borrow.Author.Needs.{needs}
+use Rattle.cells.specs.Cell.{start}
+use Rattle.cells.proofs.Cells.{interval, within, span-pos}
+use Rattle.cells.proofs.Words.{pow8-small}
+use Rattle.sets.proofs.Cursors.{head-proper, points-end, points-at}
+use Rattle.sets.proofs.inner.load.Statement.{statement}
+use Rattle.sets.proofs.inner.load.Tie as tie
+
+pow8-requires : tie.Need-pow8-requires
+pow8-requires c κs = search needs
+
+returns : tie.Need-returns
+returns c = λ v b.
+    let s = c .before .before .before in
+    points-end (s .args .depth) (s .args .list .now) (s .args .i) v (c .before .pow8 .result) (c .before .pow8 .ensures) (c .if1 .taken) b
+
+mul-code : tie.Need-mul-code
+mul-code c = search needs
+
+shared-slice-read-code : tie.Need-shared-slice-read-code
+shared-slice-read-code c = search needs
+
+width-requires : tie.Need-width-requires
+width-requires c κs =
+    let s = c .before .before .before .before in
+    let (v, b) = s .pre .1 in
+    (s .pre .0, head-proper (s .args .depth) (s .args .list .now) (s .args .i) v (c .before .if1 .left) b)
+
+-- the leaf's numbers
+module _ (c : tie.After-width) where
+  abbrev begun : tie.Start
+  begun = c .before .before .before .before .before
+
+  abbrev depth : ℕ
+  depth = begun .args .depth
+
+  abbrev code : ℕ
+  code = getD (begun .args .list .now) (begun .args .i) 0
+
+  abbrev w : ℕ
+  w = c .width .result
+
+  numbers : (code * w ≡ c .before .before .before .pow8 .result + start depth code) × (start depth code + w ≤ 8 ^ 10) × (8 ^ depth ≤ 8 ^ 10) × (0 < w)
+  numbers =
+      let (v, b) = begun .pre .1 in
+      let p = head-proper depth (begun .args .list .now) (begun .args .i) v (c .before .before .if1 .left) b in
+      let e : code * w ≡ 8 ^ depth + start depth code = ap (λ (x : ℕ). code * x) (c .width .ensures) ∙ interval depth code p in
+      omega (arith, e, c .before .before .before .pow8 .ensures, c .width .ensures, within depth code p, pow8-small depth (begun .pre .0), span-pos depth code)
+
+mul-from : tie.Need-mul-from
+mul-from c = omega (arith, numbers c)
+
+sub-from : tie.Need-sub-from
+sub-from c = omega (arith, numbers c)
+
+add-t12 : tie.Need-add-t12
+add-t12 c = omega (arith, numbers c)
+
+returns-2 : tie.Need-returns-2
+returns-2 c = λ v b.
+    let s = begun c in
+    points-at (s .args .depth) (s .args .list .now) (s .args .i) v (c .before .before .if1 .left) b _ _
+    (omega (arith, numbers c))
+    (omega (arith, numbers c, c .width .ensures))
+
+pub load-spec : {M : Type 1} → statement M
+load-spec =
+    tie.close
+    (tie.spec
+    pow8-requires
+    returns
+    mul-code
+    shared-slice-read-code
+    width-requires
+    mul-from
+    sub-from
+    add-t12
+    returns-2)
