@@ -6,15 +6,17 @@ use mathlib.Core.List.{List, [], _∷_}
 use Prim.Native.Nat.{ℕ, zero, suc, _≤_, _<_}
 use native.Mathlib.Omega.{arith}
 use lib.Dec.{lit<, lit≤}
-use lib.IntN.{pos}
+use lib.IntN.{pos, negsuc}
 use lib.ListN.{length, getD}
 use Rattle.cells.specs.Answer.{answer, given}
 use Rattle.cells.specs.Cell.{topBit, level, proper, index, side, start, span, holds}
 use Rattle.cells.specs.Place.{along, corner, number}
-use Rattle.cells.specs.Neighbour.{isStep, isNone, isDirection, Neighbour}
+use Rattle.cells.specs.Neighbour.{isStep, isNone, isDirection, Neighbour, NeighbourOf}
 use Rattle.cells.specs.declared.Answer.{Answer}
 use Rattle.cells.proofs.Bools.{clash}
 use Rattle.cells.proofs.Decisions.{passes}
+use Rattle.cells.proofs.NeighbourLaws.{one-neighbour-of}
+use Rattle.cells.proofs.Instances.{neighbour-refuses}
 use Rattle.records.specs.Record.{black}
 use Rattle.records.specs.Count.{count}
 use Rattle.records.specs.Fault.{allFrom, early, eightAt, fault, firstFrom, firstFault}
@@ -118,3 +120,22 @@ met-at-holds =
 
 pub met-at-fails : MetAtOf 2 two 67 (pos 0) (pos 1) (pos 0) (given 0) → ⊥
 met-at-fails h = let e : _≡_ {A = ℕ} 0 1 = ap (λ (r : Answer). r .place) (one-met-at 2 two 67 (pos 0) (pos 1) (pos 0) _ _ h met-at-holds) in omega arith
+
+-- ---- depth 1, [r1], west of r0 is outside the root: the empty part at the list's beginning
+
+abbrev r1 : List ℕ
+r1 = 9 ∷ []
+
+outside : (m : ℕ) → Neighbour 1 8 (negsuc 0) (pos 0) (pos 0) m → ⊥
+unfolding topBit level proper isStep isNone isDirection
+outside m n =
+    let given-m : NeighbourOf 1 8 (negsuc 0) (pos 0) (pos 0) (given m) = inr (passes (λ h. omega arith), inr (passes (clash refl), inr (passes (clash refl), inr (passes (λ none. none m n), (m, n, refl))))) in
+    let e : _≡_ {A = ℕ} 0 7 = ap (λ (r : Answer). r .number) (one-neighbour-of 1 8 (negsuc 0) (pos 0) (pos 0) _ _ given-m neighbour-refuses) in
+    omega arith
+
+pub met-refuses : MetOf 1 r1 (5, 8) 8 (negsuc 0) (pos 0) (pos 0) [] (5, 8)
+unfolding topBit level proper isStep isNone isDirection early fault firstFrom firstFault
+met-refuses = record { at = 0; n = 0; part = refused; codes = refl; memory = refl; begins = refl }
+  where
+    refused : PartOf 1 r1 8 (negsuc 0) (pos 0) (pos 0) (0, 0)
+    refused = inr (passes (λ h. omega arith), inr (passes (λ h. omega arith), inr (passes (clash refl), inr (passes (clash refl), inl (_, (outside, refl), refl)))))

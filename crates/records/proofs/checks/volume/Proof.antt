@@ -1,7 +1,6 @@
 -- `records::checks::volume` meets its contract: the voxels of the leaves are the black ones. Assumes nothing.
 use mathlib.Core.Path.{_≡_, sym, ap, _∙_}
 use mathlib.Core.List.{[]}
-use Prim.Native.Nat.{_^_}
 use borrow.Author.Needs.{needs}
 use Rattle.cells.specs.Answer.{given, alone}
 use Rattle.cells.specs.declared.Answer.{Answer}
