@@ -25,6 +25,20 @@ extern "C" {
     );
     fn probe_join(depth: u32, a: *const u32, a_len: usize, b: *const u32, b_len: usize, out: *mut u32, room: usize, answer: *mut u64, len: usize);
     fn probe_meet(depth: u32, a: *const u32, a_len: usize, b: *const u32, b_len: usize, out: *mut u32, room: usize, answer: *mut u64, len: usize);
+    fn probe_move(depth: u32, list: *const u32, list_len: usize, dx: i32, dy: i32, dz: i32, out: *mut u32, room: usize, answer: *mut u64, len: usize);
+    fn probe_move_metres(
+        depth: u32,
+        list: *const u32,
+        list_len: usize,
+        x: f64,
+        y: f64,
+        z: f64,
+        s: u32,
+        out: *mut u32,
+        room: usize,
+        answer: *mut u64,
+        len: usize,
+    );
     fn probe_less(depth: u32, a: *const u32, a_len: usize, b: *const u32, b_len: usize, out: *mut u32, room: usize, answer: *mut u64, len: usize);
 }
 
@@ -141,4 +155,12 @@ pub fn set(op: Op, n: usize, room: usize, depth: u32, a: &[u32], b: &[u32]) -> W
         Op::Less => probe_less,
     };
     wrote(n, room, |out, p, len| unsafe { call(depth, a.as_ptr(), a.len(), b.as_ptr(), b.len(), out, room, p, len) })
+}
+
+pub fn shift(n: usize, room: usize, depth: u32, list: &[u32], d: [i32; 3]) -> Wrote {
+    wrote(n, room, |out, p, len| unsafe { probe_move(depth, list.as_ptr(), list.len(), d[0], d[1], d[2], out, room, p, len) })
+}
+
+pub fn shift_metres(n: usize, room: usize, depth: u32, list: &[u32], d: [f64; 3], s: u32) -> Wrote {
+    wrote(n, room, |out, p, len| unsafe { probe_move_metres(depth, list.as_ptr(), list.len(), d[0], d[1], d[2], s, out, room, p, len) })
 }

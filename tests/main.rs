@@ -6,6 +6,7 @@ mod cells;
 mod link;
 mod lists;
 mod model;
+mod moves;
 mod run;
 mod sets;
 
@@ -20,6 +21,7 @@ fn main() {
     cells::all(&mut run);
     lists::all(&mut run);
     sets::all(&mut run);
+    moves::all(&mut run);
     println!("{} passed, {} failed", run.passed, run.failed);
     if run.failed > 0 || run.passed == 0 {
         std::process::exit(1);

@@ -271,3 +271,95 @@ pub fn set_of(op: Op, depth: u32, a: &[u32], b: &[u32], room: usize) -> (Answer,
     }
     result(room, good_list(depth, &combined(op, &black(depth, a), &black(depth, b))))
 }
+
+// ---- moves
+
+/// The cell's displaced voxels as intervals, or none where one leaves the root. A cell moved by a multiple of its side is a cell; any other goes by its children.
+fn displaced(depth: u32, c: Cell, d: [i64; 3], out: &mut Vec<(u64, u64)>) {
+    let s = side(depth, c.level) as i64;
+    if d.iter().all(|x| x % s == 0) {
+        let to: Vec<u32> = (0..3).map(|i| (c.corner[i] as i64 + d[i]) as u32).collect();
+        let corner = [to[0], to[1], to[2]];
+        out.push(interval(depth, code(depth, Cell { corner, level: c.level })).unwrap());
+        return;
+    }
+    for label in 0..8u32 {
+        let mut corner = c.corner;
+        for (axis, x) in corner.iter_mut().enumerate() {
+            *x += (label >> axis & 1) * side(depth, c.level + 1);
+        }
+        displaced(depth, Cell { corner, level: c.level + 1 }, d, out);
+    }
+}
+
+/// A move by whole voxels of a good list.
+pub fn shift_of(depth: u32, list: &[u32], d: [i64; 3], room: usize) -> (Answer, Vec<u32>) {
+    let root = 1i64 << depth;
+    let mut pieces = Vec::new();
+    for (i, c) in list.iter().enumerate() {
+        let leaf = cell(depth, *c).unwrap();
+        let s = side(depth, leaf.level) as i64;
+        let stays = (0..3).all(|a| leaf.corner[a] as i64 + d[a] >= 0 && leaf.corner[a] as i64 + s + d[a] <= root);
+        if !stays {
+            return (answer(7, i as u64, 1), Vec::new());
+        }
+    }
+    for c in list {
+        displaced(depth, cell(depth, *c).unwrap(), d, &mut pieces);
+    }
+    result(room, good_list(depth, &union(pieces)))
+}
+
+pub fn move_of(depth: u32, list: &[u32], d: [i32; 3], room: usize) -> (Answer, Vec<u32>) {
+    if let Some(refused) = refusal(depth, &[list]) {
+        return (refused, Vec::new());
+    }
+    shift_of(depth, list, [d[0] as i64, d[1] as i64, d[2] as i64], room)
+}
+
+/// The whole number nearest to d x 2^s, a half going up, over the exact value of d, taken from the bits of the float; none outside signed 32 bits.
+pub fn nearest(d: f64, s: u32) -> Option<i32> {
+    let bits = d.to_bits();
+    let exponent = (bits >> 52 & 0x7ff) as i32;
+    let fraction = bits & ((1 << 52) - 1);
+    if exponent == 0x7ff {
+        return None;
+    }
+    // d is mantissa x 2^power
+    let (mantissa, power) = if exponent == 0 { (fraction, -1074) } else { (fraction | 1 << 52, exponent - 1075) };
+    // twice d x 2^s, as a whole number of halves with what is lost remembered: floor(2 d 2^s)
+    let shift = power + s as i32 + 1;
+    let (halves, lost): (u128, bool) = if mantissa == 0 {
+        (0, false)
+    } else if shift >= 0 {
+        if shift > 60 {
+            return None;
+        }
+        ((mantissa as u128) << shift, false)
+    } else if shift <= -64 {
+        (0, true)
+    } else {
+        ((mantissa >> -shift) as u128, mantissa & ((1u64 << -shift) - 1) != 0)
+    };
+    let down = if bits >> 63 == 1 { -(halves as i128) - lost as i128 } else { halves as i128 };
+    // n is floor((2 d 2^s + 1) / 2), and a floor of a floor is a floor
+    let n = (down + 1).div_euclid(2);
+    i32::try_from(n).ok()
+}
+
+pub fn metres_of(depth: u32, list: &[u32], d: [f64; 3], s: u32, room: usize) -> (Answer, Vec<u32>) {
+    if let Some(refused) = refusal(depth, &[list]) {
+        return (refused, Vec::new());
+    }
+    if s > 10 {
+        return (answer(5, 3, 0), Vec::new());
+    }
+    let mut whole = [0i64; 3];
+    for axis in 0..3 {
+        match nearest(d[axis], s) {
+            None => return (answer(5, axis as u64, 0), Vec::new()),
+            Some(n) => whole[axis] = n as i64,
+        }
+    }
+    shift_of(depth, list, whole, room)
+}

@@ -17,7 +17,7 @@ use Rattle.cells.proofs.Decisions.{One, one-refuses, one-decided}
 use Rattle.cells.proofs.Power.{pow2-pos}
 use Rattle.cells.proofs.Cells.{proper-bounds, cell-of, level-le}
 use Rattle.cells.proofs.Bools.{both-true}
-use Rattle.cells.proofs.Places.{pick, number-along, number-lt, along-number, along-first}
+use Rattle.cells.proofs.Places.{pick, number-along, number-lt, along-number, along-first, along-last}
 
 pub side-pos : (D c : ℕ) → 0 < side D c
 unfolding side
@@ -76,6 +76,14 @@ corner-start b D c =
     let k : ℕ = level D c in
     let e : k + (D - k) ≡ D = omega (arith, level-le D c) in
     sym (along-first b k (D - k) (c - 8 ^ k)) ∙ ap (λ (m : ℕ). along b m ((c - 8 ^ k) * 8 ^ (D - k))) e
+
+-- and the last voxel stands a side further, less one
+pub corner-end : (a : ℕ) → a < 3 → (D c : ℕ) → along (2 ^ a) D (start D c + (span D c - 1)) + 1 ≡ corner (2 ^ a) D c + side D c
+unfolding corner side index start span
+corner-end a h D c =
+    let k : ℕ = level D c in
+    let e : k + (D - k) ≡ D = omega (arith, level-le D c) in
+    ap (λ (m : ℕ). along (2 ^ a) m ((c - 8 ^ k) * 8 ^ (D - k) + (8 ^ (D - k) - 1)) + 1) (sym e) ∙ along-last a h k (D - k) (c - 8 ^ k)
 
 -- ---- from a proper corner and level to its cell
 

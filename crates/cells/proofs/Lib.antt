@@ -13,6 +13,8 @@ pub mod Words
 pub mod Places
 pub mod CornerLaws
 pub mod Views
+-- displaced places and voxels
+pub mod Displacements
 -- document 001: the rules, labels worked out by them, the loop, directions, the neighbour
 pub mod Rules
 pub mod Steps

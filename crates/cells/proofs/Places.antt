@@ -5,7 +5,7 @@ use Prim.Native.Nat.{ℕ, zero, suc, _+_, _-_, _*_, _/_, _%_, _^_, _<_, _≤_, z
 use native.Mathlib.Nat.{pow-zero, mul-one, zero-div, add-zero, add-suc, div-one}
 use native.Mathlib.Omega.{arith}
 use Rattle.cells.specs.Place.{along, number}
-use Rattle.cells.proofs.Power.{pow2-suc, pow8-suc, div-pow}
+use Rattle.cells.proofs.Power.{pow2-suc, pow8-pos, pow8-suc, div-pow}
 
 -- the one of three numbers that belongs to axis a
 abbrev pub pick : {A : Type 0} → ℕ → A → A → A → A
@@ -60,7 +60,7 @@ same-voxel n u v hu hv e =
     sym (number-along n u hu) ∙ rw (x, y, z) (number-along n v hv)
 
 -- a label's bit on an axis is that axis's
-label-bit : (a i j k : ℕ) → a < 3 → i < 2 → j < 2 → k < 2 → (i + 2 * j + 4 * k) / 2 ^ a % 2 ≡ pick a i j k
+pub label-bit : (a i j k : ℕ) → a < 3 → i < 2 → j < 2 → k < 2 → (i + 2 * j + 4 * k) / 2 ^ a % 2 ≡ pick a i j k
 label-bit zero i j k h hi hj hk = omega arith
 label-bit (suc zero) i j k h hi hj hk = omega arith
 label-bit (suc (suc zero)) i j k h hi hj hk = omega arith
@@ -112,6 +112,24 @@ along-first b k (suc n) i =
     let e : i * 8 ^ suc n ≡ 8 * (i * 8 ^ n) + 0 = omega (arith, ap (λ (x : ℕ). i * x) (pow8-suc n)) in
     let z : 0 / b % 2 ≡ 0 = ap (λ (n : ℕ). n % 2) (zero-div b) in
     rw (add-suc, e) (along-step b (k + n) (i * 8 ^ n) 0 (omega arith) ∙ omega (arith, z, along-first b k n i, ap (λ (x : ℕ). along b k i * x) (pow2-suc n)))
+
+-- and its last voxel, whose labels within the cell are all 7
+all-bits : (a : ℕ) → a < 3 → 7 / 2 ^ a % 2 ≡ 1
+all-bits zero h = refl
+all-bits (suc zero) h = refl
+all-bits (suc (suc zero)) h = refl
+all-bits (suc (suc (suc a))) h = absurd (omega arith)
+
+pub along-last : (a : ℕ) → a < 3 → (k n i : ℕ) → along (2 ^ a) (k + n) (i * 8 ^ n + (8 ^ n - 1)) + 1 ≡ along (2 ^ a) k i * 2 ^ n + 2 ^ n
+unfolding along
+along-last a h k zero i =
+    let e : i * 8 ^ 0 + (8 ^ 0 - 1) ≡ i = omega (arith, pow-zero 8) in
+    rw (add-zero k, e, pow-zero) (omega arith)
+along-last a h k (suc n) i =
+    let v : ℕ = i * 8 ^ n + (8 ^ n - 1) in
+    let e : i * 8 ^ suc n + (8 ^ suc n - 1) ≡ 8 * v + 7 = omega (arith, pow8-suc n, pow8-pos n, ap (λ (x : ℕ). i * x) (pow8-suc n)) in
+    rw (add-suc k n, e)
+    (omega (arith, along-step (2 ^ a) (k + n) v 7 (omega arith), all-bits a h, along-last a h k n i, pow2-suc n, ap (λ (x : ℕ). along (2 ^ a) k i * x) (pow2-suc n)))
 
 -- ---- the definitions' step as the code takes it, at n > 0
 

@@ -1,17 +1,9 @@
--- INNER: for the contracts of private and inner functions. Definitions only.
+-- INNER: for the contracts of private functions. How the code writes a direction, as document 001's tables are read (Payeur.antt). Definitions only.
 use mathlib.Core.Path.{_≡_}
 use mathlib.Core.Bool.{true, false}
 use Prim.Native.Nat.{ℕ, zero, suc, _/_, _%_, _<_}
 use lib.IntN.{ℤ, pos, negsuc}
 use Rattle.cells.specs.Neighbour.{isDirection}
-
--- ---- a whole number as two natural ones: d is up - down, and one of the two is 0
-
-abbrev pub Parts : ℤ → ℕ → ℕ → Type 0
-Parts (pos n) up down = (up ≡ n) × (down ≡ 0)
-Parts (negsuc n) up down = (up ≡ 0) × (down ≡ suc n)
-
--- ---- how the code writes a direction, as document 001's tables are read (Payeur.antt)
 
 -- a step as a digit: 0 for none, 1 for forth, 2 for back, 3 for what is no step
 unfoldable pub digitOf : ℤ → ℕ

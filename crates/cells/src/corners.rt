@@ -1,7 +1,7 @@
 // A cell address as coordinates and level, and back.
 use crate::Answer;
 use crate::DEEPEST;
-use crate::inner::axis;
+use crate::inner::coordinate;
 use crate::inner::is_proper;
 use crate::inner::level_of;
 use crate::inner::number_of;
@@ -37,15 +37,6 @@ fn no_corner(number: u32) -> Corner
         z: 0,
         level: 0,
     }
-}
-
-// The least coordinate of a cell along the axis whose bit in a label is b.
-fn coordinate(b: u32, depth: u32, code: u32) -> u32
-    requires { ⌜ (0 < b) × (depth ≤ deepest) × (proper depth code ≡ true) ⌝ }
-    ensures { λ r. ⌜ r ≡ corner b depth code ⌝ }
-{
-    let level = level_of(depth, code);
-    axis(b, level, code - pow8(level)) * pow2(depth - level)
 }
 
 // The corner and the level of a code: 1 for the depth, 6 for a code that is not proper.

@@ -5,8 +5,7 @@ ghost use mathlib.Core.Bool.{true};
 ghost use Prim.Native.Nat.{_+_, _≤_, _<_, _^_};
 ghost use Rattle.cells.specs.Answer.{answer, given, deepest};
 ghost use Rattle.cells.specs.Cell.{level, proper, span, start};
-ghost use Rattle.cells.specs.Place.{along, number};
-ghost use Rattle.cells.specs.Inner.{Parts};
+ghost use Rattle.cells.specs.Place.{along, number, corner};
 
 // Number, place and list of a refusal.
 pub fn refusal(number: u32, place: u64, list: u32) -> Answer
@@ -97,6 +96,15 @@ pub fn axis(b: u32, n: u32, v: u32) -> u32
     2 * axis(b, n - 1, v / 8) + v % 8 / b % 2
 }
 
+// The least coordinate of a cell along the axis whose bit in a label is b.
+pub fn coordinate(b: u32, depth: u32, code: u32) -> u32
+    requires { ⌜ (0 < b) × (depth ≤ deepest) × (proper depth code ≡ true) ⌝ }
+    ensures { λ r. ⌜ r ≡ corner b depth code ⌝ }
+{
+    let level = level_of(depth, code);
+    axis(b, level, code - pow8(level)) * pow2(depth - level)
+}
+
 // The number of the voxel at x, y, z in a cube of depth n.
 pub fn number_of(n: u32, x: u32, y: u32, z: u32) -> u32
     requires { ⌜ n ≤ deepest ⌝ }
@@ -106,26 +114,4 @@ pub fn number_of(n: u32, x: u32, y: u32, z: u32) -> u32
         return 0;
     }
     8 * number_of(n - 1, x / 2, y / 2, z / 2) + (x % 2 + 2 * (y % 2) + 4 * (z % 2))
-}
-
-// A displacement along one axis: up - down, one of them 0.
-pub struct Parted {
-    pub up: u32,
-    pub down: u32,
-}
-
-// A signed number as such a displacement. The difference is taken at 64 bits, where it fits.
-pub fn part(d: i32) -> Parted
-    ensures { λ r. ⌜ Parts d (r .up) (r .down) ⌝ }
-{
-    if 0 <= d {
-        return Parted {
-            up: d as u32,
-            down: 0,
-        };
-    }
-    Parted {
-        up: 0,
-        down: (0 - (d as i64)) as u32,
-    }
 }

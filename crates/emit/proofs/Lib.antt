@@ -2,5 +2,6 @@
 -- codes put into a buffer; the cells of a run and the emitter's state; writers
 pub mod Puts
 pub mod Runs
+pub mod Children
 -- what a call answers that writes all of a good list or nothing
 pub mod Answers

@@ -1,5 +1,6 @@
 // Runs the examples of document 01 and prints a line for each: the call and its inputs, then number, place and list, and what comes beside them.
 mod on_cells;
+mod on_moves;
 mod on_records;
 mod on_sets;
 mod print;
@@ -8,4 +9,6 @@ fn main() {
     on_cells::run();
     on_records::run();
     on_sets::run();
+    on_moves::run();
+    on_moves::run_metres();
 }

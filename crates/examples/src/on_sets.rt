@@ -55,7 +55,12 @@ pub fn run() {
     less(3, &[1], &[559], 21);
     less(3, &[1], &[559], 20);
     // a join that completes eight siblings on two levels
-    join(2, &[64, 65, 66, 67, 9, 10, 11, 12, 13, 14, 15], &[68, 69, 70, 71], 1);
+    join(
+        2,
+        &[64, 65, 66, 67, 9, 10, 11, 12, 13, 14, 15],
+        &[68, 69, 70, 71],
+        1,
+    );
     meet(3, &[1], &[559], 1);
     meet(3, &[558], &[559], 0);
     // refusals: the depth, the first list before the second

@@ -1,7 +1,7 @@
 // Words of a line on standard output.
 use cells::Answer;
-use cells::inner::part;
 use libc::STDOUT_FILENO;
+use moves::inner::part;
 
 pub fn text(s: &[u8]) {
     io::write_all(STDOUT_FILENO, s);

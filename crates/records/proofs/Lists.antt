@@ -6,6 +6,7 @@ use mathlib.Core.List.{List, [], _∷_, _++_, List·Memᴰ·tail}
 use Prim.Native.Nat.{ℕ, _+_, _-_, _^_, _≤_, _<_}
 use native.Mathlib.Omega.{arith}
 use lib.Dec.{leb, ltb}
+use lib.ListN.{length}
 use borrow.Author.Tests.{leb-true, ltb-true, le-leb, lt-ltb}
 use Rattle.cells.specs.Cell.{proper, start, span, holds}
 use Rattle.records.specs.Record.{black, Ordered, Condensed}
@@ -102,3 +103,11 @@ ordered-snoc D a b (x ∷ l) c (q, f, o) none p h g =
         go : (start D x + span D x ≤ b) ⊎ (b < start D x + span D x) → start D x + span D x ≤ b
         go (inl k) = k
         go (inr k) = absurd (true≢false (sym (held D x last (omega (arith, span-pos D x)) (omega (arith, span-pos D x))) ∙ clear last (omega arith)))
+
+-- ---- how many leaves
+
+-- no more than the voxels from the list's beginning on
+pub few-ordered : (D from : ℕ) (l : List ℕ) → from ≤ 8 ^ D → Ordered D from l → from + length l ≤ 8 ^ D
+unfolding Ordered
+few-ordered D from [] h o = omega arith
+few-ordered D from (c ∷ l) h (p, f, o) = omega (arith, span-pos D c, few-ordered D (start D c + span D c) l (within D c p) o)

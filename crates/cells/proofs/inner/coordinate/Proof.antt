@@ -1,4 +1,4 @@
--- `cells::corners::coordinate` meets its contract.
+-- `cells::inner::coordinate` meets its contract.
 -- Assumes nothing.
 use Prim.Native.Nat.{ℕ, _-_, _≤_}
 use native.Mathlib.Nat.{mul-le-mul}
@@ -8,8 +8,8 @@ use Rattle.cells.specs.Place.{corner}
 use Rattle.cells.proofs.Cells.{level-le, proper-bounds}
 use Rattle.cells.proofs.Places.{along-lt}
 use Rattle.cells.proofs.Words.{pow2-small}
-use Rattle.cells.proofs.corners.coordinate.Statement.{statement}
-use Rattle.cells.proofs.corners.coordinate.Tie as tie
+use Rattle.cells.proofs.inner.coordinate.Statement.{statement}
+use Rattle.cells.proofs.inner.coordinate.Tie as tie
 
 level-of-requires : tie.Need-level-of-requires
 level-of-requires c κs = (c .pre .1, c .pre .2)

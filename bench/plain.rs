@@ -1,0 +1,409 @@
+//! The same jobs in plain Rust: the same refusals in the same order, counting before writing, nothing written beyond the result.
+
+#[derive(Clone, Copy, PartialEq, Eq, Debug)]
+pub struct Answer {
+    pub number: u32,
+    pub place: u64,
+    pub list: u32,
+}
+
+fn told(number: u32, place: u64, list: u32) -> Answer {
+    Answer { number, place, list }
+}
+
+fn proper(depth: u32, code: u32) -> bool {
+    let zeros = code.leading_zeros();
+    zeros < 32 && (31 - zeros) % 3 == 0 && (31 - zeros) / 3 <= depth
+}
+
+fn width(depth: u32, code: u32) -> u32 {
+    1 << (3 * depth + code.leading_zeros() - 31)
+}
+
+fn start(depth: u32, code: u32) -> u32 {
+    code * width(depth, code) - (1 << (3 * depth))
+}
+
+/// The first fault, or the number of voxels.
+fn judged(depth: u32, list: &[u32]) -> Result<u32, (u32, u64)> {
+    let (mut last, mut past, mut run, mut sum) = (0, 0, 0, 0);
+    for (i, &code) in list.iter().enumerate() {
+        if !proper(depth, code) {
+            return Err((2, i as u64));
+        }
+        let from = start(depth, code);
+        if from < past {
+            return Err((3, i as u64));
+        }
+        run = if code % 8 == 0 {
+            1
+        } else if run > 0 && code - 1 == last {
+            run + 1
+        } else {
+            0
+        };
+        if run == 8 {
+            return Err((4, i as u64));
+        }
+        let w = width(depth, code);
+        last = code;
+        past = from + w;
+        sum += w;
+    }
+    Ok(sum)
+}
+
+fn refused(depth: u32, lists: &[&[u32]]) -> Option<Answer> {
+    if depth > 10 {
+        return Some(told(1, 0, 0));
+    }
+    lists.iter().enumerate().find_map(|(k, list)| judged(depth, list).err().map(|(number, place)| told(number, place, k as u32 + 1)))
+}
+
+pub fn check(depth: u32, list: &[u32]) -> Answer {
+    refused(depth, &[list]).unwrap_or(told(0, list.len() as u64, 0))
+}
+
+pub fn volume(depth: u32, list: &[u32]) -> Answer {
+    if depth > 10 {
+        return told(1, 0, 0);
+    }
+    match judged(depth, list) {
+        Err((number, place)) => told(number, place, 1),
+        Ok(sum) => told(0, sum as u64, 0),
+    }
+}
+
+/// The pending black run, and the codes written before it.
+struct Emitter<'a> {
+    depth: u32,
+    from: u32,
+    to: u32,
+    at: usize,
+    out: Option<&'a mut [u32]>,
+}
+
+impl<'a> Emitter<'a> {
+    fn new(depth: u32, out: Option<&'a mut [u32]>) -> Emitter<'a> {
+        Emitter { depth, from: 0, to: 0, at: 0, out }
+    }
+
+    fn flush(&mut self) {
+        let mut p = self.from;
+        while p < self.to {
+            let mut w = 1;
+            while w <= (self.to - p) / 8 && p % (w * 8) == 0 {
+                w *= 8;
+            }
+            if let Some(out) = &mut self.out {
+                out[self.at] = ((1 << (3 * self.depth)) + p) / w;
+            }
+            self.at += 1;
+            p += w;
+        }
+    }
+
+    fn black(&mut self, from: u32, to: u32) {
+        if self.to != from {
+            self.flush();
+            self.from = from;
+        }
+        self.to = to;
+    }
+
+    fn finish(mut self) -> usize {
+        self.flush();
+        self.at
+    }
+}
+
+#[derive(Clone, Copy)]
+pub enum Op {
+    Join,
+    Meet,
+    Less,
+}
+
+struct Cursor<'a> {
+    depth: u32,
+    list: &'a [u32],
+    at: usize,
+    from: u32,
+    to: u32,
+}
+
+impl Cursor<'_> {
+    fn load(&mut self) {
+        match self.list.get(self.at) {
+            None => {
+                self.from = 1 << (3 * self.depth);
+                self.to = self.from;
+            }
+            Some(&code) => {
+                self.from = start(self.depth, code);
+                self.to = self.from + width(self.depth, code);
+            }
+        }
+    }
+
+    fn pass(&mut self, next: u32) {
+        if self.to <= next {
+            self.at += 1;
+            self.load();
+        }
+    }
+}
+
+fn sweep(op: Op, depth: u32, a: &[u32], b: &[u32], out: Option<&mut [u32]>) -> usize {
+    let full = 1 << (3 * depth);
+    let mut e = Emitter::new(depth, out);
+    let mut x = Cursor { depth, list: a, at: 0, from: 0, to: 0 };
+    let mut y = Cursor { depth, list: b, at: 0, from: 0, to: 0 };
+    x.load();
+    y.load();
+    let mut v = x.from.min(y.from);
+    while v < full {
+        let (p, q) = (x.from <= v, y.from <= v);
+        let next = (if p { x.to } else { x.from }).min(if q { y.to } else { y.from });
+        let black = match op {
+            Op::Join => p || q,
+            Op::Meet => p && q,
+            Op::Less => p && !q,
+        };
+        if black {
+            e.black(v, next);
+        }
+        x.pass(next);
+        y.pass(next);
+        v = next.max(x.from.min(y.from));
+    }
+    e.finish()
+}
+
+pub fn set(op: Op, depth: u32, a: &[u32], b: &[u32], out: &mut [u32]) -> Answer {
+    if let Some(r) = refused(depth, &[a, b]) {
+        return r;
+    }
+    let need = sweep(op, depth, a, b, None);
+    if out.len() < need {
+        return told(8, need as u64, 0);
+    }
+    told(0, sweep(op, depth, a, b, Some(out)) as u64, 0)
+}
+
+// ---- moves: descent through target cells, each with the index ranges of its up to eight source cells
+
+type Slots = [(u32, u32); 8];
+
+struct Move<'a> {
+    depth: u32,
+    list: &'a [u32],
+    /// The labels that each target path is added to, to give its source.
+    shift: u32,
+    /// The axes that can carry below each level.
+    need: [u32; 12],
+    visited: u64,
+}
+
+impl Move<'_> {
+    fn first_from(&self, v: u32, lo: u32, hi: u32) -> u32 {
+        lo + self.list[lo as usize..hi as usize].partition_point(|c| start(self.depth, *c) < v) as u32
+    }
+
+    fn split(&self, k: u32, (lo, hi): (u32, u32)) -> Slots {
+        if lo == hi || width(self.depth, self.list[lo as usize]) >= 1 << (3 * k + 3) {
+            return [(lo, hi); 8];
+        }
+        let mut v = start(self.depth, self.list[lo as usize]) >> (3 * k + 3) << (3 * k + 3);
+        let mut parts = [(0, 0); 8];
+        let mut i = lo;
+        for part in &mut parts {
+            v += 1 << (3 * k);
+            let e = self.first_from(v, i, hi);
+            *part = (i, e);
+            i = e;
+        }
+        parts
+    }
+
+    /// Whether all needed slots are white, or all black.
+    fn colour(&self, k: u32, f: u32, slots: &Slots) -> Option<bool> {
+        let mut found = None;
+        for q in 0..8 {
+            if q & !f != 0 {
+                continue;
+            }
+            let (lo, hi) = slots[q as usize];
+            let black = lo < hi;
+            if black && width(self.depth, self.list[lo as usize]) < 1 << (3 * k) || found == Some(!black) {
+                return None;
+            }
+            found = Some(black);
+        }
+        found
+    }
+
+    fn copy(&self, k: u32, (lo, hi): (u32, u32), from: u32, e: &mut Emitter) {
+        if lo == hi {
+            return;
+        }
+        if width(self.depth, self.list[lo as usize]) >= 1 << (3 * k) {
+            e.black(from, from + (1 << (3 * k)));
+            return;
+        }
+        let base = start(self.depth, self.list[lo as usize]) >> (3 * k) << (3 * k);
+        for &code in &self.list[lo as usize..hi as usize] {
+            let v = from + (start(self.depth, code) - base);
+            e.black(v, v + width(self.depth, code));
+        }
+    }
+
+    fn descend(&mut self, k: u32, from: u32, slots: &Slots, e: &mut Emitter) {
+        self.visited += 1;
+        let f = self.need[k as usize];
+        if f == 0 {
+            self.copy(k, slots[0], from, e);
+            return;
+        }
+        match self.colour(k, f, slots) {
+            Some(false) => {}
+            Some(true) => e.black(from, from + (1 << (3 * k))),
+            None => {
+                let mut parts = [[(0, 0); 8]; 8];
+                for q in 0..8u32 {
+                    if q & !f == 0 {
+                        parts[q as usize] = self.split(k - 1, slots[q as usize]);
+                    }
+                }
+                let h = self.shift >> (3 * (k - 1)) & 7;
+                for m in 0..8u32 {
+                    let mut child = [(0, 0); 8];
+                    for q in 0..8u32 {
+                        let carry = h & m | h & q | m & q;
+                        child[q as usize] = parts[carry as usize][(h ^ m ^ q) as usize];
+                    }
+                    self.descend(k - 1, from + (m << (3 * (k - 1))), &child, e);
+                }
+            }
+        }
+    }
+}
+
+fn interleaved(depth: u32, at: [u32; 3]) -> u32 {
+    (0..depth).map(|bit| (0..3).map(|axis| (at[axis] >> bit & 1) << (3 * bit + axis as u32)).sum::<u32>()).sum()
+}
+
+fn coordinate(depth: u32, v: u32, axis: u32) -> i64 {
+    (0..depth).map(|bit| ((v >> (3 * bit + axis) & 1) << bit) as i64).sum()
+}
+
+/// One pass: the number of leaves, and the target cells visited.
+pub fn displaced(depth: u32, list: &[u32], d: [i32; 3], out: Option<&mut [u32]>) -> (usize, u64) {
+    let mask = (1u32 << depth) - 1;
+    let back = |axis: usize| 0u32.wrapping_sub(d[axis] as u32) & mask;
+    let shift = interleaved(depth, [back(0), back(1), back(2)]);
+    let mut need = [0; 12];
+    for k in 0..depth as usize {
+        need[k + 1] = need[k] | shift >> (3 * k) & 7;
+    }
+    let mut m = Move { depth, list, shift, need, visited: 0 };
+    let mut e = Emitter::new(depth, out);
+    m.descend(depth, 0, &[(0, list.len() as u32); 8], &mut e);
+    let visited = m.visited;
+    (e.finish(), visited)
+}
+
+pub fn shift(depth: u32, list: &[u32], d: [i32; 3], out: &mut [u32]) -> Answer {
+    if let Some(r) = refused(depth, &[list]) {
+        return r;
+    }
+    for (i, &code) in list.iter().enumerate() {
+        let v = start(depth, code);
+        let side = 1i64 << ((3 * depth + code.leading_zeros() - 31) / 3);
+        for axis in 0..3 {
+            let x = coordinate(depth, v, axis as u32) + d[axis] as i64;
+            if x < 0 || x + side > 1 << depth {
+                return told(7, i as u64, 1);
+            }
+        }
+    }
+    let need = displaced(depth, list, d, None).0;
+    if out.len() < need {
+        return told(8, need as u64, 0);
+    }
+    told(0, displaced(depth, list, d, Some(out)).0 as u64, 0)
+}
+
+// ---- stored blocks
+
+pub fn write(depth: u32, list: &[u32], bytes: &mut [u8]) -> Answer {
+    if let Some(r) = refused(depth, &[list]) {
+        return r;
+    }
+    let n = ((list.len() + 121) / 122).max(1);
+    if bytes.len() < 512 * n {
+        return told(8, 512 * n as u64, 0);
+    }
+    for i in 0..n {
+        let codes = &list[(122 * i).min(list.len())..(122 * i + 122).min(list.len())];
+        let (mut a, mut b) = (1u32, 0u32);
+        let block = &mut bytes[512 * i..512 * i + 512];
+        let mut put = |w: usize, x: u32| block[4 * w..4 * w + 4].copy_from_slice(&x.to_le_bytes());
+        for w in 0..126 {
+            let x = match w {
+                0 => i as u32,
+                1 => n as u32,
+                2 => depth,
+                3 => codes.len() as u32,
+                _ => codes.get(w - 4).copied().unwrap_or(0),
+            };
+            a = a.wrapping_add(x);
+            b = b.wrapping_add(a);
+            put(w, x);
+        }
+        put(126, a);
+        put(127, b);
+    }
+    told(0, 512 * n as u64, 0)
+}
+
+fn word(bytes: &[u8], i: usize, w: usize) -> u32 {
+    let p = 512 * i + 4 * w;
+    u32::from_le_bytes([bytes[p], bytes[p + 1], bytes[p + 2], bytes[p + 3]])
+}
+
+fn sound(bytes: &[u8], i: usize, n: usize, depth: u32) -> bool {
+    let k = word(bytes, i, 3) as usize;
+    let right = if i + 1 < n { k == 122 } else { k <= 122 && (k > 0 || n == 1) };
+    if word(bytes, i, 0) as usize != i || word(bytes, i, 1) as usize != n || word(bytes, i, 2) > 10 || word(bytes, i, 2) != depth || !right {
+        return false;
+    }
+    let (mut a, mut b) = (1u32, 0u32);
+    for w in 0..126 {
+        a = a.wrapping_add(word(bytes, i, w));
+        b = b.wrapping_add(a);
+    }
+    (4 + k..126).all(|w| word(bytes, i, w) == 0) && word(bytes, i, 126) == a && word(bytes, i, 127) == b
+}
+
+pub fn read(bytes: &[u8], out: &mut [u32]) -> (Answer, u32) {
+    let n = bytes.len() / 512;
+    if n == 0 || bytes.len() % 512 != 0 {
+        return (told(9, n as u64, 0), 0);
+    }
+    let depth = word(bytes, 0, 2);
+    if let Some(i) = (0..n).find(|i| !sound(bytes, *i, n, depth)) {
+        return (told(9, i as u64, 0), 0);
+    }
+    let k = 122 * (n - 1) + word(bytes, n - 1, 3) as usize;
+    // the codes are judged where they stand, before anything is written
+    let codes: Vec<u32> = (0..k).map(|j| word(bytes, j / 122, 4 + j % 122)).collect();
+    if let Err((number, place)) = judged(depth, &codes) {
+        return (told(number, place, 1), 0);
+    }
+    if out.len() < k {
+        return (told(8, k as u64, 0), 0);
+    }
+    out[..k].copy_from_slice(&codes);
+    (told(0, k as u64, 0), depth)
+}

@@ -1,0 +1,143 @@
+//! Lists of 16,384 leaves at depth 10, of five shapes, each twice: as it is and displaced.
+pub const DEPTH: u32 = 10;
+pub const LEAVES: usize = 16_384;
+
+pub struct Shape {
+    pub name: &'static str,
+    pub first: Vec<u32>,
+    pub second: Vec<u32>,
+}
+
+#[derive(Clone, Copy, PartialEq)]
+enum Tone {
+    White,
+    Black,
+    Mixed,
+}
+
+/// The cube of coordinates `from` up to `from + side` along each axis.
+struct Cube {
+    from: [i64; 3],
+    side: i64,
+}
+
+impl Cube {
+    /// The least and the greatest coordinate along an axis.
+    fn range(&self, axis: usize) -> (i64, i64) {
+        (self.from[axis], self.from[axis] + self.side - 1)
+    }
+}
+
+fn tone(all: bool, some: bool) -> Tone {
+    match (all, some) {
+        (true, _) => Tone::Black,
+        (_, true) => Tone::Mixed,
+        _ => Tone::White,
+    }
+}
+
+/// A pit with staircase walls: eight voxels in for eight down.
+fn pit(c: &Cube) -> Tone {
+    let (low, high) = c.range(2);
+    let inside = |lo: i64, hi: i64, z: i64| {
+        let k = (1023 - z) / 8 * 8;
+        (100 + k <= lo && hi < 900 - k, 100 + k <= hi && lo < 900 - k)
+    };
+    let (x, y) = (c.range(0), c.range(1));
+    let all = inside(x.0, x.1, low).0 && inside(y.0, y.1, low).0;
+    let some = inside(x.0, x.1, high).1 && inside(y.0, y.1, high).1;
+    tone(all, some)
+}
+
+fn sphere(c: &Cube) -> Tone {
+    let mut least = 0;
+    let mut most = 0;
+    for axis in 0..3 {
+        let (lo, hi) = c.range(axis);
+        let (a, b) = ((lo - 480).abs(), (hi - 480).abs());
+        most += a.max(b).pow(2);
+        if !(lo <= 480 && 480 <= hi) {
+            least += a.min(b).pow(2);
+        }
+    }
+    tone(most <= 120 * 120, least <= 120 * 120)
+}
+
+/// A trench along the diagonal.
+fn trench(c: &Cube) -> Tone {
+    let (x, y, z) = (c.range(0), c.range(1), c.range(2));
+    let (lo, hi) = (x.0 - y.1, x.1 - y.0);
+    let all = -12 <= lo && hi <= 12 && 980 <= z.0 && z.1 < 1000;
+    let some = -12 <= hi && lo <= 12 && 980 <= z.1 && z.0 < 1000;
+    tone(all, some)
+}
+
+/// The leaves of a shape displaced by d, the first of them.
+fn leaves(shape: fn(&Cube) -> Tone, d: [i64; 3]) -> Vec<u32> {
+    fn below(shape: fn(&Cube) -> Tone, d: [i64; 3], code: u32, from: [i64; 3], side: i64, out: &mut Vec<u32>) {
+        if out.len() == LEAVES {
+            return;
+        }
+        let cube = Cube { from: [from[0] - d[0], from[1] - d[1], from[2] - d[2]], side };
+        match shape(&cube) {
+            Tone::White => {}
+            Tone::Black => out.push(code),
+            Tone::Mixed => {
+                for label in 0..8u32 {
+                    let half = side / 2;
+                    let at = |axis: usize| from[axis] + (label >> axis & 1) as i64 * half;
+                    below(shape, d, code * 8 + label, [at(0), at(1), at(2)], half, out);
+                }
+            }
+        }
+    }
+    let mut out = Vec::new();
+    below(shape, d, 1, [0; 3], 1 << DEPTH, &mut out);
+    assert_eq!(out.len(), LEAVES, "the shape is too small");
+    out
+}
+
+/// The code of a voxel.
+fn voxel(at: [u32; 3]) -> u32 {
+    (0..DEPTH).rev().fold(1, |code, bit| code * 8 + (0..3).map(|axis| (at[axis] >> bit & 1) << axis).sum::<u32>())
+}
+
+fn voxels(mut codes: Vec<u32>) -> Vec<u32> {
+    codes.sort();
+    codes.dedup();
+    codes.truncate(LEAVES);
+    assert_eq!(codes.len(), LEAVES);
+    codes
+}
+
+/// A surface one voxel thick over 128 x 128 columns.
+fn surface(d: [u32; 3]) -> Vec<u32> {
+    let column = |i: u32| {
+        let (x, y) = (i % 128, i / 128);
+        voxel([200 + x + d[0], 300 + y + d[1], 500 + (x * x / 97 + y * 3 / 7) % 40 + d[2]])
+    };
+    voxels((0..LEAVES as u32).map(column).collect())
+}
+
+/// Voxels at random; every other one is the same in both lists.
+fn scatter(seed: u64) -> Vec<u32> {
+    let mut state = [seed, 77];
+    let mut next = |k: usize| {
+        state[k] = state[k].wrapping_mul(6364136223846793005).wrapping_add(1442695040888963407);
+        (state[k] >> 33) as u32
+    };
+    // the lower half of the codes is common
+    let codes = (0..LEAVES + 200).map(|i| (1 << 30) + next(i % 2) % (1 << 30)).collect();
+    voxels(codes)
+}
+
+pub fn all() -> Vec<Shape> {
+    let moved = |name, shape: fn(&Cube) -> Tone| Shape { name, first: leaves(shape, [0; 3]), second: leaves(shape, [5, 3, 2]) };
+    vec![
+        moved("pit", pit),
+        moved("sphere", sphere),
+        moved("trench", trench),
+        Shape { name: "scatter", first: scatter(1), second: scatter(2) },
+        Shape { name: "surface", first: surface([0; 3]), second: surface([5, 3, 0]) },
+    ]
+}

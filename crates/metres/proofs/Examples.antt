@@ -1,0 +1,85 @@
+-- The checked examples of document 01 on metres, as one table under one claim: at the edge number s the `f64` of the bit pattern `bits` becomes n, and nothing else.
+-- Then a move in metres, its outcome, and outcomes that it does not have. Assumes nothing.
+use mathlib.Core.Path.{_≡_, refl, subst}
+use mathlib.Core.List.{List, [], _∷_}
+use Prim.Native.Nat.{ℕ}
+use lib.IntN.{pos, negsuc}
+use lib.Ieee.{binary64, ofBits}
+use Rattle.metres.specs.declared.inner.Coordinate.{Coordinate}
+use Rattle.metres.specs.declared.inner.Coordinate.the-variants.{Voxels, Bad}
+use mathlib.Core.Logic.{inl}
+use native.Mathlib.Omega.{arith}
+use Rattle.metres.specs.declared.Move.{Move}
+use Rattle.metres.specs.declared.Move.the-variants as MoveV
+use Rattle.metres.specs.declared.inner.Taken.the-variants as TakenV
+use Rattle.metres.specs.Taken.{TakenOf}
+use Rattle.metres.specs.Inner.{Rounded}
+use Rattle.metres.proofs.TakenLaws.{together-taken, one-taken}
+use Rattle.metres.proofs.Rounding.{rounded, rounded-exists, one-rounded}
+
+pub record Example : Type 0 where
+  pub s : ℕ
+  pub bits : ℕ
+  pub n : Coordinate
+
+-- The starred ones come first. The others are the ends of the range and what is rejected, from the rule.
+abbrev pub table : List Example
+table =
+    record { s = 3; bits = 0x3fb0_0000_0000_0000; n = Voxels (pos 1) }  -- 0.0625
+    ∷ record { s = 3; bits = 0xbfb0_0000_0000_0000; n = Voxels (pos 0) }  -- -0.0625
+    ∷ record { s = 3; bits = 0x3fc8_0000_0000_0000; n = Voxels (pos 2) }  -- 0.1875
+    ∷ record { s = 3; bits = 0xbfc8_0000_0000_0000; n = Voxels (negsuc 0) }  -- -0.1875
+    ∷ record { s = 0; bits = 0x8000_0000_0000_0000; n = Voxels (pos 0) }  -- minus zero
+    ∷ record { s = 10; bits = 0x0000_0000_0000_0001; n = Voxels (pos 0) }  -- 2^-1074
+    ∷ record { s = 10; bits = 0x8000_0000_0000_0001; n = Voxels (pos 0) }  -- -2^-1074
+    ∷ record { s = 0; bits = 0x41df_ffff_ffdf_ffff; n = Voxels (pos 2147483647) }  -- just below 2^31 - 0.5
+    ∷ record { s = 0; bits = 0x41df_ffff_ffe0_0000; n = Bad }  -- 2^31 - 0.5
+    ∷ record { s = 0; bits = 0xc1e0_0000_0010_0000; n = Voxels (negsuc 2147483647) }  -- -2^31 - 0.5
+    ∷ record { s = 0; bits = 0xc1e0_0000_0010_0001; n = Bad }  -- just below -2^31 - 0.5
+    ∷ record { s = 0; bits = 0x7ff0_0000_0000_0000; n = Bad }  -- an infinity
+    ∷ record { s = 0; bits = 0x7ff8_0000_0000_0000; n = Bad }  -- a NaN
+    ∷ []
+
+abbrev Computes : List Example → Type 0
+Computes [] = Unit {0}
+Computes (x ∷ l) = (rounded (x .s) (ofBits binary64 (x .bits)) ≡ x .n) × Computes l
+
+computes : Computes table
+unfolding rounded ofBits
+computes = (refl, (refl, (refl, (refl, (refl, (refl, (refl, (refl, (refl, (refl, (refl, (refl, (refl, tt)))))))))))))
+
+-- n fits, and no other rounded does
+abbrev pub Gives : Example → Type 0
+Gives x = Rounded (x .s) (ofBits binary64 (x .bits)) (x .n) × ((w : Coordinate) → Rounded (x .s) (ofBits binary64 (x .bits)) w → w ≡ x .n)
+
+abbrev pub Hold : List Example → Type 0
+Hold [] = Unit {0}
+Hold (x ∷ l) = Gives x × Hold l
+
+holds : (l : List Example) → Computes l → Hold l
+holds [] c = tt
+holds (x ∷ l) c =
+    let d = ofBits binary64 (x .bits) in
+    let r : Rounded (x .s) d (x .n) = subst (λ (w : Coordinate). Rounded (x .s) d w) (c .0) (rounded-exists (x .s) d) in
+    ((r, λ w h. one-rounded (x .s) d w (x .n) h r), holds l (c .1))
+
+pub examples : Hold table
+examples = holds table computes
+
+-- ---- whole moves
+
+-- 0.0625, -0.0625 and 0.1875 metres at the edge number s
+abbrev starred : ℕ → Move
+starred s =
+    MoveV.Metres
+    (record { x = ofBits binary64 0x3fb0_0000_0000_0000; y = ofBits binary64 0xbfb0_0000_0000_0000; z = ofBits binary64 0x3fc8_0000_0000_0000; s = s })
+
+pub taken-holds : TakenOf (starred 3) (TakenV.Voxels (pos 1) (pos 0) (pos 2))
+taken-holds = together-taken _ (omega arith) (Voxels (pos 1)) (Voxels (pos 0)) (Voxels (pos 2)) (examples .0 .0) (examples .1 .0 .0) (examples .1 .1 .0 .0)
+
+pub taken-fails : TakenOf (starred 3) (TakenV.Voxels (pos 1) (negsuc 0) (pos 2)) → ⊥
+taken-fails h = let e : TakenV.Voxels (pos 1) (negsuc 0) (pos 2) ≡ TakenV.Voxels (pos 1) (pos 0) (pos 2) = one-taken (starred 3) _ _ h taken-holds in let z : _≡_ {A = ℕ} 0 1 = cc in omega arith
+
+-- an edge number above 10 is told before any coordinate
+pub taken-refuses : TakenOf (starred 11) (TakenV.Bad 3)
+taken-refuses = inl (_, (omega arith, refl), refl)

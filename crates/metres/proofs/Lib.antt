@@ -1,0 +1,8 @@
+-- From metres to whole voxels: `NearestLaws` is all that depends on the tie rule.
+pub mod NearestLaws
+pub mod Rounding
+pub mod Floats
+pub mod Coordinates
+-- the outcome of a move, and how it decides in a call above
+pub mod TakenLaws
+pub mod Examples

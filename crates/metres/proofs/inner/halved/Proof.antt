@@ -1,0 +1,114 @@
+-- `metres::inner::halved` meets its contract. a times 2^(s+1) is exact (`scaled`), its whole part is what `truncating_f64_to_u64` gives, and the test says whether that is all. Assumes nothing.
+use mathlib.Core.Path.{_≡_, sym, ap, _∙_, subst}
+use Prim.Native.Nat.{ℕ, _+_, _*_, _/_, _%_, _^_, _≤_, _<_}
+use native.Mathlib.Nat.{le-trans, mod-eq-of-lt, mod-lt, div-add-mod', div-lt-iff-lt-mul, mul-comm, mul-assoc, mul-le-mul-left}
+use native.Mathlib.Omega.{arith}
+use mathlib.Core.Bool.{false}
+use lib.Dec.{T, le→leb, lit≤}
+use lib.IntN.{pos}
+use lib.Pow.{pow-mono}
+use lib.Ieee.{Float, binary64, mul, ofInt, fits, inFloat}
+use lib.Ieee.Exact.{HasValue}
+use lib.Ieee.Positive.{num, den, den-pos}
+use borrow.Author.Needs.{needs}
+use Rattle.metres.proofs.Floats.{scaled, whole-value, above-minus-one, below-two-64, cut-is, over-is}
+use Rattle.metres.proofs.inner.halved.Statement.{statement}
+use Rattle.metres.proofs.inner.halved.Tie as tie
+
+-- ---- 2 << s
+pow-small : (s : ℕ) → s ≤ 10 → 2 * 2 ^ s ≤ 2 ^ 11
+pow-small s h =
+    let x : 2 ^ s ≤ 2 ^ 10 = pow-mono h in
+    omega arith
+
+shifted : (s : ℕ) → s ≤ 10 → 2 * 2 ^ s % 2 ^ 64 ≡ 2 * 2 ^ s
+shifted s h =
+    let x = pow-small s h in
+    mod-eq-of-lt (omega arith)
+
+is-whole : (n : ℕ) → n ≤ 2 ^ 53 → T (inFloat binary64 (pos n))
+unfolding inFloat
+is-whole n h = le→leb n (2 ^ 53) h
+
+-- ---- how large a times 2^(s+1) is
+bounded : (n d s : ℕ) → n < 2 ^ 32 * d → s ≤ 10 → 2 * n * 2 ^ s < 2 ^ 43 * d
+bounded n d s h S =
+    let x : n * (2 * 2 ^ s) ≤ n * 2 ^ 11 = mul-le-mul-left n (pow-small s S) in
+    let y : 2 * n * 2 ^ s ≡ n * (2 * 2 ^ s) = ap (λ (z : ℕ). z * 2 ^ s) (mul-comm 2 n) ∙ mul-assoc n 2 (2 ^ s) in
+    omega arith
+
+-- ---- what is known of a times 2^(s+1), where it stands
+-- what owning an `f64` tells: the format holds it
+held : (c : tie.Start) → T (fits binary64 (c .args .a))
+held c = subst T (sym (c .good .0 .1)) tt
+
+abbrev product : tie.Start → Float
+product c = mul binary64 (c .args .a) (ofInt binary64 (pos (2 * 2 ^ (c .args .s) % 2 ^ 64)))
+
+-- its size, as a number of half voxels times `den a`
+abbrev size : tie.Start → ℕ
+size c = 2 * num (c .args .a) * 2 ^ (c .args .s)
+
+value : (c : tie.Start) → HasValue (product c) false (size c) (den (c .args .a))
+value c = rw (shifted (c .args .s) (c .pre .0)) (scaled (c .args .a) (c .args .s) (c .pre .1 .0) (held c) (c .pre .1 .1) (c .pre .0))
+
+below : (c : tie.Start) → size c < 2 ^ 43 * den (c .args .a)
+below c = bounded (num (c .args .a)) (den (c .args .a)) (c .args .s) (c .pre .1 .1) (c .pre .0)
+
+below-64 : (c : tie.Start) → size c < 2 ^ 64 * den (c .args .a)
+below-64 c = omega (arith, below c)
+
+-- the whole part that the call gave
+whole-is : (c : tie.After-truncating-f64-to-u64) → c .truncating-f64-to-u64 .result ≡ size (c .before .before) / den (c .before .before .args .a)
+whole-is c =
+    let start = c .before .before in
+    c .truncating-f64-to-u64 .ensures ∙ cut-is (product start) (size start) (den (start .args .a)) (value start) (den-pos (start .args .a)) (below-64 start)
+
+whole-small : (c : tie.After-truncating-f64-to-u64) → c .truncating-f64-to-u64 .result ≤ 2 ^ 53
+whole-small c =
+    let start = c .before .before in
+    let q : size start / den (start .args .a) < 2 ^ 43 = div-lt-iff-lt-mul (den-pos (start .args .a)) .1 (below start) in
+    omega (arith, whole-is c)
+
+-- ---- the needs
+shl-per-metre : tie.Need-shl-per-metre
+shl-per-metre c = search needs
+
+int-to-float-per-metre : tie.Need-int-to-float-per-metre
+int-to-float-per-metre c =
+    let s = c .before .args .s in
+    let h = c .before .pre .0 in
+    rw (shifted s h) (is-whole (2 * 2 ^ s) (le-trans (pow-small s h) (lit≤ tt)))
+
+truncating-f64-to-u64-requires : tie.Need-truncating-f64-to-u64-requires
+truncating-f64-to-u64-requires c κs =
+    let start = c .before in
+    let d = den (start .args .a) in
+    (above-minus-one (product start) (size start) d (value start), below-two-64 (product start) (size start) d (value start) (den-pos (start .args .a)) (below-64 start))
+
+int-to-float-back : tie.Need-int-to-float-back
+int-to-float-back c = is-whole (c .before .truncating-f64-to-u64 .result) (whole-small (c .before))
+
+returns : tie.Need-returns
+returns c =
+    let start = c .before .before .before in
+    let w = c .before .truncating-f64-to-u64 .result in
+    let d = den (start .args .a) in
+    let e : w ≡ size start / d = whole-is (c .before) in
+    let sum : w * d + size start % d ≡ size start = rw e (div-add-mod' (size start) d) in
+    let r : size start % d < d = mod-lt (size start) (den-pos (start .args .a)) in
+    record {
+      least = omega arith;
+      most = omega arith;
+      over = over-is (ofInt binary64 (pos w)) (product start) w (size start) d (whole-value w (whole-small (c .before))) (value start) (den-pos (start .args .a));
+    }
+
+pub halved-spec : {M : Type 1} → statement M
+halved-spec =
+    tie.close
+    (tie.spec
+    shl-per-metre
+    int-to-float-per-metre
+    truncating-f64-to-u64-requires
+    int-to-float-back
+    returns)

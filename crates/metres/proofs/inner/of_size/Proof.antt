@@ -1,0 +1,38 @@
+-- `metres::inner::of_size` meets its contract: below 2^32 by its three steps, each of which ensures its part, and from there on no 32-bit number is near. Assumes nothing.
+use mathlib.Core.Path.{sym, ap, _∙_, subst}
+use lib.Ieee.{ofBits}
+use borrow.Author.Needs.{needs}
+use Rattle.metres.specs.declared.inner.Coordinate.{Coordinate}
+use Rattle.metres.specs.Inner.{Rounded, withSign, fitted}
+use Rattle.metres.proofs.Coordinates.{reached, beyond, measured-rounded}
+use Rattle.metres.proofs.inner.of_size.Statement.{statement}
+use Rattle.metres.proofs.inner.of_size.Tie as tie
+
+halved-requires : tie.Need-halved-requires
+unfolding ofBits
+halved-requires c κs =
+    let r = reached (c .before .args .a) (c .before .pre .1) (c .if1 .taken) in
+    (c .before .pre .0, (r .0, r .1))
+
+size-requires : tie.Need-size-requires
+size-requires c κs = search needs
+
+fit-requires : tie.Need-fit-requires
+fit-requires c κs = search needs
+
+returns : tie.Need-returns
+unfolding ofBits
+returns c =
+    let start = c .before .before .before .before in
+    let t = start .args .negative in
+    let a = start .args .a in
+    let r = reached a (start .pre .1) (c .before .before .before .if1 .taken) in
+    subst (λ (w : Coordinate). Rounded (start .args .s) (withSign t a) w) (sym (c .fit .ensures ∙ ap (fitted t) (c .before .size .ensures)))
+    (measured-rounded (start .args .s) t a (c .before .before .halved .result) (r .0) (c .before .before .halved .ensures))
+
+returns-2 : tie.Need-returns-2
+unfolding ofBits
+returns-2 c = beyond (c .before .args .s) (c .before .args .negative) (c .before .args .a) (c .before .pre .1) (c .if1 .left)
+
+pub of-size-spec : {M : Type 1} → statement M
+of-size-spec = tie.close (tie.spec halved-requires size-requires fit-requires returns returns-2)

@@ -1,0 +1,57 @@
+-- A move in whole voxels or in metres, and the whole voxels that it becomes: document 01, "Moves", and number 5 of its table. Definitions only.
+-- A float (`lib.Ieee`) is `nan`, an infinity, or `fin t m e`: the number m * 2 ^ e, negative where t is true. 2 ^ e is the fraction up e / down e, one of which is 1.
+-- A whole number (`lib.IntN`) is `pos n`, which is n, or `negsuc n`, which is -(n + 1).
+use Prim.Native.Nat.{ℕ, _*_, _^_, _<_}
+use mathlib.Core.Path.{_≡_}
+use mathlib.Core.Bool.{Bool, true, false}
+use mathlib.Core.List.{List, [], _∷_}
+use lib.IntN.{ℤ, pos, negℤ, _+ℤ_, _-ℤ_, _*ℤ_}
+use lib.Signed.{_≤ℤ_, _<ℤ_}
+use lib.Ieee.{Float, nan, inf, fin, up, down}
+use Rattle.cells.specs.Answer.{answer, Test, refuses}
+use Rattle.metres.specs.declared.Move.{Move}
+use Rattle.metres.specs.declared.Move.the-variants.{Voxels, Metres}
+
+-- a, or -a where t is true
+abbrev pub signed : Bool → ℕ → ℤ
+signed false a = pos a
+signed true a = negℤ (pos a)
+
+-- 2d x 2^s for d = ±m * 2 ^ e, multiplied by `down e` so that it is whole
+abbrev pub doubled : ℕ → Bool → ℕ → ℤ → ℤ
+doubled s t m e = signed t (2 * (m * up e) * 2 ^ s)
+
+-- n is the whole number nearest to d x 2^s, a half going up: 2n - 1 <= 2d x 2^s < 2n + 1, over the exact value of d. Each side is multiplied by `down e`.
+-- A NaN and an infinity have no such n.
+unfoldable pub Nearest : ℕ → Float → ℤ → Type 0
+Nearest s nan n = ⊥
+Nearest s (inf t) n = ⊥
+Nearest s (fin t m e) n =
+    (((pos 2 *ℤ n -ℤ pos 1) *ℤ pos (down e)) ≤ℤ doubled s t m e) × (doubled s t m e <ℤ ((pos 2 *ℤ n +ℤ pos 1) *ℤ pos (down e)))
+
+-- n is a signed 32-bit number: -2^31 <= n < 2^31
+abbrev pub In32 : ℤ → Type 0
+In32 n = (negℤ (pos (2 ^ 31)) ≤ℤ n) × (n <ℤ pos (2 ^ 31))
+
+-- the coordinate d becomes n voxels of the edge 2^-s
+abbrev pub Whole : ℕ → Float → ℤ → Type 0
+Whole s d n = Nearest s d n × In32 n
+
+-- it becomes no number of voxels
+abbrev pub NoWhole : ℕ → Float → Type 0
+NoWhole s d = (n : ℤ) → Whole s d n → ⊥
+
+-- number 5: metres with an edge number above 10, place 3; else the first bad coordinate x, y, z, places 0, 1, 2. Whole voxels are never bad.
+abbrev pub moveTests : Move → List Test
+moveTests (Voxels i j k) = []
+moveTests (Metres d) =
+    refuses (answer 5 3 0) (10 < d .s)
+    ∷ refuses (answer 5 0 0) (NoWhole (d .s) (d .x))
+    ∷ refuses (answer 5 1 0) (NoWhole (d .s) (d .y))
+    ∷ refuses (answer 5 2 0) (NoWhole (d .s) (d .z))
+    ∷ []
+
+-- the whole voxels that a move becomes
+abbrev pub Becomes : Move → ℤ → ℤ → ℤ → Type 0
+Becomes (Voxels i j k) dx dy dz = (dx ≡ i) × (dy ≡ j) × (dz ≡ k)
+Becomes (Metres d) dx dy dz = Whole (d .s) (d .x) dx × Whole (d .s) (d .y) dy × Whole (d .s) (d .z) dz

@@ -1,0 +1,69 @@
+-- `moves::inner::first_leaves` meets its contract. The invariant: each leaf passed stays. Assumes nothing.
+use mathlib.Core.Path.{_≡_, sym, _∙_}
+use mathlib.Core.Bool.{true}
+use Prim.Native.Nat.{ℕ, _-_, _≤_, _<_}
+use native.Mathlib.Omega.{arith}
+use borrow.Author.Count.{below-more}
+use borrow.Author.Tests.{not-true, not-false}
+use lib.ListN.{length, getD}
+use Rattle.records.proofs.Search.{proper-at}
+use Rattle.moves.specs.Inner.{leafKeeps}
+use Rattle.moves.proofs.inner.first_leaves.Statement.{statement}
+use Rattle.moves.proofs.inner.first_leaves.Tie as tie
+
+abbrev Inv-loop : tie.InvT-loop
+Inv-loop depth list x y z i₀ i = (i ≤ length list) × ((j : ℕ) → j < i → leafKeeps depth x y z (getD list j 0) ≡ true)
+
+abbrev μ-loop : tie.MeasureT-loop
+μ-loop depth list x y z i₀ i = length list - i
+
+loop-holds : tie.Need-loop-holds Inv-loop μ-loop
+loop-holds c = (omega arith, λ j h. absurd (omega arith))
+
+mul-code : tie.Need-mul-code Inv-loop μ-loop
+mul-code c = omega arith
+
+shared-slice-read-code : tie.Need-shared-slice-read-code Inv-loop μ-loop
+shared-slice-read-code c = omega arith
+
+leaf-stays-requires : tie.Need-leaf-stays-requires Inv-loop μ-loop
+leaf-stays-requires c κs =
+    let s = c .before .before .before .before in
+    (s .pre .0, proper-at (s .args .depth) (s .args .list .now) (s .pre .1) (c .before .before .loop .i) (omega arith))
+
+returns : tie.Need-returns Inv-loop μ-loop
+returns c =
+    let u = c .before .before .before .before .loop in
+    record { within = u .inv .0; before = u .inv .1; here = λ _. sym (c .before .leaf-stays .ensures) ∙ not-true _ (c .if1 .taken) }
+
+add-i : tie.Need-add-i Inv-loop μ-loop
+add-i c = omega arith
+
+loop-less : tie.Need-loop-less Inv-loop μ-loop
+loop-less c = omega arith
+
+loop-again : tie.Need-loop-again Inv-loop μ-loop
+loop-again c =
+    let u = c .before .before .before .before .loop in
+    (omega arith, below-more _ _ (u .inv .1) (sym (c .before .leaf-stays .ensures) ∙ not-false _ (c .if1 .left)))
+
+returns-2 : tie.Need-returns-2 Inv-loop μ-loop
+returns-2 c =
+    let u = c .before .loop in
+    record { within = u .inv .0; before = u .inv .1; here = λ h. absurd (omega arith) }
+
+pub first-leaves-spec : {M : Type 1} → statement M
+first-leaves-spec =
+    tie.close
+    (tie.spec
+    Inv-loop
+    μ-loop
+    loop-holds
+    mul-code
+    shared-slice-read-code
+    leaf-stays-requires
+    returns
+    add-i
+    loop-less
+    loop-again
+    returns-2)

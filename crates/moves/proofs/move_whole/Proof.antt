@@ -1,0 +1,149 @@
+-- `moves::move_whole` meets its contract: acceptance, a pass that only counts, and one that writes. Assumes nothing.
+use mathlib.Core.Path.{_≡_, refl, sym, ap, _∙_, subst}
+use mathlib.Core.Logic.{inl, inr, _↔_}
+use mathlib.Core.List.{List}
+use mathlib.Core.Bool.{true}
+use Prim.Native.Nat.{ℕ, _^_, _<_}
+use native.Mathlib.Omega.{arith}
+use borrow.Author.Needs.{needs}
+use lib.IntN.{ℤ}
+use mir.Syntax.{w32}
+use mir.ValLaws.{toZ-ofZ}
+use Rattle.cells.specs.Answer.{keeping}
+use Rattle.cells.specs.declared.Answer.{Answer}
+use Rattle.emit.proofs.Answers.{Told, crowded, written}
+use Rattle.shifts.specs.Shift.{shifted}
+use Rattle.moves.specs.Moves.{Leaving, FromBlack, ShiftOf}
+use Rattle.moves.specs.Inner.{Parts, back}
+use Rattle.moves.proofs.Acceptance.{AllParts, all-parts, Accepted, accepted-stays, first-leaves, all-stay}
+use Rattle.moves.proofs.Back.{shifted-exactly}
+use Rattle.moves.proofs.move_whole.Statement.{statement}
+use Rattle.moves.proofs.move_whole.Tie as tie
+
+-- ---- acceptance
+
+module _ (c : tie.After-first-leaves) where
+  abbrev s : tie.Start
+  s = c .before .before .before .before .before .before
+
+  -- the parts of the three displacements, as the machine reads them back from their bits
+  parts : AllParts (s .args .dx) (s .args .dy) (s .args .dz) (c .before .before .before .part .result) (c .before .before .part2 .result) (c .before .part3 .result)
+  parts =
+      all-parts (s .args .dx) (s .args .dy) (s .args .dz) (c .before .before .before .part .result) (c .before .before .part2 .result) (c .before .part3 .result)
+      (subst (λ (z : ℤ). Parts z (c .before .before .before .part .result)) (toZ-ofZ w32 (s .args .dx) (s .fits .dx)) (c .before .before .before .part .ensures))
+      (subst (λ (z : ℤ). Parts z (c .before .before .part2 .result)) (toZ-ofZ w32 (s .args .dy) (s .fits .dy)) (c .before .before .part2 .ensures))
+      (subst (λ (z : ℤ). Parts z (c .before .part3 .result)) (toZ-ofZ w32 (s .args .dz) (s .fits .dz)) (c .before .part3 .ensures))
+
+module _ (e : tie.Else1) where
+  abbrev b : tie.Start
+  b = s (e .before)
+
+  accepted : Accepted (b .args .depth) (b .args .dx) (b .args .dy) (b .args .dz) (b .args .list .now)
+  accepted =
+      let a = b .args in
+      all-stay (a .depth) (a .list .now) (b .pre .1) (a .dx) (a .dy) (a .dz) _ _ _ (parts (e .before)) (e .before .first-leaves .result) (e .before .first-leaves .ensures) (e .if1 .left)
+
+  -- the shift back gives the displaced voxels
+  voxels : (w : ℕ) → w ≡ back (b .args .depth) (e .before .before .before .before .part .result) (e .before .before .before .part2 .result) (e .before .before .part3 .result)
+      → (v : ℕ) → v < 8 ^ b .args .depth → (shifted (b .args .depth) (b .args .list .now) w v ≡ true) ↔ FromBlack (b .args .depth) (b .args .dx) (b .args .dy) (b .args .dz) (b .args .list .now) v
+  voxels w is v h =
+      let a = b .args in
+      rw is (shifted-exactly (a .depth) (a .dx) (a .dy) (a .dz) _ _ _ (parts (e .before)) (a .list .now) (b .pre .1) accepted v h)
+
+  -- past the test, the room decides
+  next : (t : Answer × List ℕ) → Told (b .args .depth) (FromBlack (b .args .depth) (b .args .dx) (b .args .dy) (b .args .dz) (b .args .list .now)) (b .args .out .now) t
+      → ShiftOf (b .args .depth) (b .args .list .now) (b .args .dx) (b .args .dy) (b .args .dz) (b .args .out .now) t
+  next t told =
+      let a = b .args in
+      inr ((λ r (i, F, _). accepted-stays (a .depth) (a .dx) (a .dy) (a .dz) (a .list .now) accepted i (F .within) (F .leaves)), told)
+
+-- ---- the needs
+
+part-requires : tie.Need-part-requires
+part-requires c κs = search needs
+
+part-requires-2 : tie.Need-part-requires-2
+part-requires-2 c κs = search needs
+
+part-requires-3 : tie.Need-part-requires-3
+part-requires-3 c κs = search needs
+
+first-leaves-requires : tie.Need-first-leaves-requires
+first-leaves-requires c κs = search needs
+
+refusal-requires : tie.Need-refusal-requires
+refusal-requires c κs = search needs
+
+returns : tie.Need-returns
+returns c =
+    let t = c .before in
+    let f = t .before in
+    let a = s f .args in
+    let F = first-leaves (a .depth) (a .list .now) (s f .pre .1) (a .dx) (a .dy) (a .dz) _ _ _ (parts f) (f .first-leaves .result) (f .first-leaves .ensures) (t .if1 .taken) in
+    inl (_, (f .first-leaves .result, F, refl), ap (keeping (a .out .now)) (c .refusal .ensures))
+
+backwards-requires : tie.Need-backwards-requires
+backwards-requires c κs = search needs
+
+shift-list-requires : tie.Need-shift-list-requires
+shift-list-requires c κs = search needs
+
+refusal-requires-2 : tie.Need-refusal-requires-2
+refusal-requires-2 c κs = search needs
+
+same-length : tie.Need-same-length
+same-length c = search needs
+
+returns-2 : tie.Need-returns-2
+returns-2 c =
+    let q = c .before .before .before .before in
+    let p = q .before .before in
+    let e = p .before in
+    let a = b e .args in
+    let w = q .shift-list in
+    next e (c .refusal2 .result, w .last .1 .1 .1 .0)
+    (subst (λ (r : Answer). Told (a .depth) (FromBlack (a .depth) (a .dx) (a .dy) (a .dz) (a .list .now)) (a .out .now) (r, w .last .1 .1 .1 .0)) (sym (c .refusal2 .ensures))
+    (crowded (a .depth) (shifted (a .depth) (a .list .now) (p .backwards .result)) _ (voxels e (p .backwards .result) (p .backwards .ensures)) (a .out .now) (w .last .1 .1 .1 .0) (w .result) (w .ensures) (c .before .if2 .taken)))
+
+shift-list-requires-2 : tie.Need-shift-list-requires-2
+shift-list-requires-2 c κs = search needs
+
+success-requires : tie.Need-success-requires
+success-requires c κs = search needs
+
+same-length-2 : tie.Need-same-length-2
+same-length-2 c = search needs
+
+returns-3 : tie.Need-returns-3
+returns-3 c =
+    let f = c .before .before .before .before .before in
+    let q = f .before .before .before in
+    let p = q .before .before in
+    let e = p .before in
+    let a = b e .args in
+    let w = q .shift-list in
+    let w₂ = c .before .before .before .shift-list2 in
+    next e (c .success .result, w₂ .last .1 .1 .1 .0)
+    (subst (λ (r : Answer). Told (a .depth) (FromBlack (a .depth) (a .dx) (a .dy) (a .dz) (a .list .now)) (a .out .now) (r, w₂ .last .1 .1 .1 .0)) (sym (c .success .ensures))
+    (written (a .depth) (shifted (a .depth) (a .list .now) (p .backwards .result)) _ (voxels e (p .backwards .result) (p .backwards .ensures)) (a .out .now) (w .last .1 .1 .1 .0) (w .result) (w .ensures)
+    (w₂ .last .1 .1 .1 .0) (w₂ .result) (f .if2 .left) (w₂ .ensures)))
+
+pub move-whole-spec : {M : Type 1} → statement M
+move-whole-spec =
+    tie.close
+    (tie.spec
+    part-requires
+    part-requires-2
+    part-requires-3
+    first-leaves-requires
+    refusal-requires
+    returns
+    backwards-requires
+    shift-list-requires
+    refusal-requires-2
+    same-length
+    returns-2
+    shift-list-requires-2
+    success-requires
+    same-length-2
+    returns-3)

@@ -1,0 +1,41 @@
+-- INNER: for the contracts of inner functions. A displacement in natural numbers, the test that a leaf stays, and the shift back to the sources. Definitions only.
+use mathlib.Core.Path.{_≡_}
+use mathlib.Core.List.{List}
+use mathlib.Core.Bool.{Bool, true, false, _&&_}
+use Prim.Native.Nat.{ℕ, suc, _+_, _-_, _%_, _^_, _<_, _≤_}
+use lib.Dec.{leb}
+use lib.IntN.{ℤ, pos, negsuc}
+use lib.ListN.{length, getD}
+use Rattle.cells.specs.Cell.{side}
+use Rattle.cells.specs.Place.{number, corner}
+use Rattle.moves.specs.declared.inner.Parted.{Parted}
+
+-- d is up - down, and one of the two is 0
+abbrev pub Parts : ℤ → Parted → Type 0
+Parts (pos n) p = (p .up ≡ n) × (p .down ≡ 0)
+Parts (negsuc n) p = (p .up ≡ 0) × (p .down ≡ suc n)
+
+-- whether the s places from x on, displaced by d, stay below the side w
+abbrev pub keeps : ℕ → ℕ → ℕ → Parted → Bool
+keeps w x s d = leb (d .down) (x + d .up) && leb (x + s + d .up) (w + d .down)
+
+-- whether the cell c, displaced, stays in the root along the axis of bit b, and along all three
+unfoldable pub keepsAlong : ℕ → ℕ → Parted → ℕ → Bool
+keepsAlong D b d c = keeps (2 ^ D) (corner b D c) (side D c) d
+
+unfoldable pub leafKeeps : ℕ → Parted → Parted → Parted → ℕ → Bool
+leafKeeps D x y z c = keepsAlong D 1 x c && (keepsAlong D 2 y c && keepsAlong D 4 z c)
+
+-- r is the first index whose leaf does not stay, the length where all stay
+pub record FirstOut (D : ℕ) (x y z : Parted) (l : List ℕ) (r : ℕ) : Type 0 where
+  pub within : r ≤ length l
+  pub before : (i : ℕ) → i < r → leafKeeps D x y z (getD l i 0) ≡ true
+  pub here : r < length l → leafKeeps D x y z (getD l r 0) ≡ false
+
+-- a displacement turned round, modulo the root's side
+unfoldable pub turned : ℕ → Parted → ℕ
+turned D d = (d .down % 2 ^ D + (2 ^ D - d .up % 2 ^ D)) % 2 ^ D
+
+-- the voxel number that, added along each axis modulo the side, takes a displaced voxel back to where it came from
+unfoldable pub back : ℕ → Parted → Parted → Parted → ℕ
+back D x y z = number D (turned D x) (turned D y) (turned D z)

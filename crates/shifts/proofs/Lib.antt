@@ -1,0 +1,11 @@
+-- Labels and their sums, from the bottom up: the bits of a label, the code's operators, the sum label by label
+pub mod Bits
+pub mod Tables
+pub mod Adder
+-- slots: the leaves that meet a cell and its children; arrays that a loop fills; tints
+pub mod Parts
+pub mod Arrays
+pub mod Tints
+-- the descent: one source cell copied; target cells and their children
+pub mod Copying
+pub mod Targets

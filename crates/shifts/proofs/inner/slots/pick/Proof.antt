@@ -1,0 +1,105 @@
+-- `shifts::inner::slots::pick` meets its contract. The loop's invariant: the slots before q are picked. Assumes nothing.
+use mathlib.Core.Path.{_≡_, refl, sym, ap, _∙_, subst}
+use mathlib.Core.List.{List}
+use Prim.Native.Nat.{ℕ, suc, _+_, _-_, _*_, _≤_, _<_}
+use native.Mathlib.Omega.{arith}
+use borrow.Author.Needs.{needs}
+use lib.ListN.{length, getD, set}
+use Rattle.shifts.specs.Labels.{sumLabel, carryLabel}
+use Rattle.shifts.specs.Slot.{slotAt, partAt}
+use Rattle.shifts.specs.declared.inner.slots.Slot.{Slot}
+use Rattle.shifts.proofs.Arrays.{Filled, filled-none, filled-more}
+use Rattle.shifts.proofs.inner.slots.pick.Statement.{statement}
+use Rattle.shifts.proofs.inner.slots.pick.Tie as tie
+
+-- slot q is the part that the labels say
+abbrev Picked : List (List Slot) → ℕ → ℕ → ℕ → Slot → Type 0
+Picked p h m q s = s ≡ partAt p (carryLabel h m q) (sumLabel h m q)
+
+abbrev Inv-loop : tie.InvT-loop
+Inv-loop h m p r₀ q₀ r q = Filled (Picked p h m) (record { lo = 0; hi = 0 }) 8 r q
+
+abbrev μ-loop : tie.MeasureT-loop
+μ-loop h m p r₀ q₀ r q = 8 - q
+
+loop-holds : tie.Need-loop-holds Inv-loop μ-loop
+loop-holds c = filled-none (Picked (c .args .t1) (c .args .h) (c .args .m)) (record { lo = 0; hi = 0 }) 8 _ refl
+
+cast-carry-label : tie.Need-cast-carry-label Inv-loop μ-loop
+cast-carry-label c = search needs
+
+carry-label-requires : tie.Need-carry-label-requires Inv-loop μ-loop
+carry-label-requires c κs = search needs
+
+cast-from : tie.Need-cast-from Inv-loop μ-loop
+cast-from c = search needs
+
+cast-sum-label : tie.Need-cast-sum-label Inv-loop μ-loop
+cast-sum-label c = search needs
+
+sum-label-requires : tie.Need-sum-label-requires Inv-loop μ-loop
+sum-label-requires c κs = search needs
+
+cast-label : tie.Need-cast-label Inv-loop μ-loop
+cast-label c = search needs
+
+mul-row : tie.Need-mul-row Inv-loop μ-loop
+mul-row c = search needs
+
+array-copy-out-row : tie.Need-array-copy-out-row Inv-loop μ-loop
+array-copy-out-row c = search needs
+
+mul-s : tie.Need-mul-s Inv-loop μ-loop
+mul-s c = search needs
+
+array-copy-out-s : tie.Need-array-copy-out-s Inv-loop μ-loop
+array-copy-out-s c = search needs
+
+mul-r : tie.Need-mul-r Inv-loop μ-loop
+mul-r c = search needs
+
+array-set-from-r : tie.Need-array-set-from-r Inv-loop μ-loop
+array-set-from-r c = search needs
+
+add-q : tie.Need-add-q Inv-loop μ-loop
+add-q c = search needs
+
+loop-less : tie.Need-loop-less Inv-loop μ-loop
+loop-less c = search needs
+
+loop-again : tie.Need-loop-again Inv-loop μ-loop
+loop-again c =
+    let a = c .before .before .before .before .before .before .args in
+    let u = c .before .before .before .before .before .loop in
+    filled-more (Picked (a .t1) (a .h) (a .m)) (record { lo = 0; hi = 0 }) 8 (u .r) (u .q) (partAt (a .t1) (c .before .before .before .carry-label .result) (c .before .before .sum-label .result))
+    (omega (arith, c .before .before .before .before .loop-test .taken))
+    (rw (c .before .before .before .carry-label .ensures .0, c .before .before .sum-label .ensures .0))
+    (u .inv)
+
+returns : tie.Need-returns Inv-loop μ-loop
+returns c =
+    λ q h. c .before .loop .inv .each q (omega (arith, c .loop-test .left))
+
+pub pick-spec : {M : Type 1} → statement M
+pick-spec =
+    tie.close
+    (tie.spec
+    Inv-loop
+    μ-loop
+    loop-holds
+    cast-carry-label
+    carry-label-requires
+    cast-from
+    cast-sum-label
+    sum-label-requires
+    cast-label
+    mul-row
+    array-copy-out-row
+    mul-s
+    array-copy-out-s
+    mul-r
+    array-set-from-r
+    add-q
+    loop-less
+    loop-again
+    returns)

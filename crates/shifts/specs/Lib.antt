@@ -1,0 +1,4 @@
+-- the vocabulary of inner functions: this crate has no public call
+pub mod Labels
+pub mod Shift
+pub mod Slot

@@ -1,0 +1,96 @@
+//! Moves in whole voxels and in metres.
+use crate::link;
+use crate::lists;
+use crate::model;
+use crate::run::Run;
+
+fn whole(run: &mut Run, n: usize, room: usize, depth: u32, list: &[u32], d: [i32; 3]) {
+    let (answer, codes) = model::move_of(depth, list, d, room);
+    let want = if n < 8 { (None, Vec::new()) } else { (Some(answer), codes) };
+    run.same(|| format!("move {depth} {list:?} {d:?} room {room}, {n} words"), link::shift(n, room, depth, list, d), Ok(want));
+}
+
+fn metres(run: &mut Run, n: usize, room: usize, depth: u32, list: &[u32], d: [f64; 3], s: u32) {
+    let (answer, codes) = model::metres_of(depth, list, d, s, room);
+    let want = if n < 8 { (None, Vec::new()) } else { (Some(answer), codes) };
+    run.same(|| format!("move {depth} {list:?} {d:?} metres, s {s}, room {room}, {n} words"), link::shift_metres(n, room, depth, list, d, s), Ok(want));
+}
+
+/// A move with an exact buffer, one place short, empty and larger.
+fn about(run: &mut Run, depth: u32, list: &[u32], d: [i32; 3]) {
+    let need = (model::move_of(depth, list, d, usize::MAX).0.place as usize).min(1 << 16);
+    for room in [need, need.saturating_sub(1), 0, need + 3] {
+        whole(run, 8, room, depth, list, d);
+    }
+}
+
+/// A good list whose leaves are small enough to be moved voxel by voxel.
+fn movable(run: &mut Run, depth: u32, most: u64) -> Vec<u32> {
+    lists::good(run, depth, most).into_iter().filter(|c| depth < 10 || *c >= 1 << 21).collect()
+}
+
+/// Coordinates around every edge of the rule: halves, ends of the range, the smallest floats, no numbers.
+const EDGES: [f64; 22] = [
+    0.0, -0.0, 0.0625, -0.0625, 0.1875, -0.1875, 0.5, -0.5, 1.5, -1.5, 2147483647.0, 2147483647.5, 2147483648.0, -2147483648.0, -2147483648.5, -2147483649.0,
+    5e-324, -5e-324, f64::MAX, f64::INFINITY, f64::NEG_INFINITY, f64::NAN,
+];
+
+fn coordinate(run: &mut Run, s: u32) -> f64 {
+    match run.below(6) {
+        0 => run.one_of(&EDGES),
+        1 => run.one_of(&EDGES) / (1u64 << s.min(10)) as f64,
+        2 => f64::from_bits(run.next()),
+        3 => (run.below(65) as f64 - 32.0) / (2u64 << s.min(10)) as f64,
+        4 => (run.below(4000) as f64 - 2000.0) / 16.0 / (1u64 << s.min(10)) as f64,
+        _ => 0.0,
+    }
+}
+
+pub fn all(run: &mut Run) {
+    // every move by -2^D - 1 .. 2^D + 1 along each axis at depths 0 to 2, on sets of every kind
+    for depth in 0..3u32 {
+        let reach = (1i32 << depth) + 1;
+        for _ in 0..4 {
+            let most = run.one_of(&[1, 2, 6]);
+            let list = lists::good(run, depth, most);
+            for x in -reach..=reach {
+                for y in -reach..=reach {
+                    for z in -reach..=reach {
+                        whole(run, 8, 64, depth, &list, [x, y, z]);
+                    }
+                }
+            }
+        }
+    }
+    for _ in 0..run.cases {
+        let depth = run.one_of(&[1, 2, 3, 4, 10, 10, 10]);
+        let most = run.one_of(&[0, 1, 2, 8]);
+        let list = movable(run, depth, most);
+        let far = run.one_of(&[1, 2, 3, 16, 300, 1 << 20]).min(1 << (depth + 1));
+        let mut d = [0; 3];
+        for x in &mut d {
+            *x = run.below(2 * far as u64 + 1) as i32 - far;
+        }
+        if run.below(6) == 0 {
+            let step = run.one_of(&[2, 4, 8, 256]);
+            d = [d[0] / step * step, d[1] / step * step, d[2] / step * step];
+        }
+        if run.below(30) == 0 {
+            d[run.below(3) as usize] = run.one_of(&[i32::MIN, i32::MAX, i32::MIN + 1]);
+        }
+        about(run, depth, &list, d);
+    }
+    // refusals and metres
+    for _ in 0..run.cases {
+        let depth = run.one_of(&[0, 1, 2, 3, 10, 11, u32::MAX]);
+        let list = if depth != 10 && run.below(3) == 0 { lists::damaged(run, depth.min(3), 4) } else { movable(run, depth.min(10), 4) };
+        let n = run.one_of(&[8, 8, 8, 9, 7, 0]);
+        let room = run.one_of(&[0, 1, 8, 4096]);
+        let d = [run.one_of(&[0, 1, -1, i32::MIN]), run.one_of(&[0, 1, -2]), run.one_of(&[0, 2, i32::MAX])];
+        whole(run, n, room, depth, &list, d);
+        let s = run.one_of(&[0, 1, 3, 9, 10, 10, 11, u32::MAX]);
+        let m = [coordinate(run, s), coordinate(run, s), coordinate(run, s)];
+        metres(run, n, room, depth, &list, m, s);
+        metres(run, n, room, depth, &[], m, s);
+    }
+}
