@@ -41,7 +41,7 @@ fn neighbour(depth: u32, code: u32, dx: i32, dy: i32, dz: i32) {
     print::end();
 }
 
-pub fn run() {
+fn places_and_codes() {
     // r is 1, r0 is 8, r057 is 559; 0, 2 to 7 are never proper, nor is 16
     place(3, 1);
     place(3, 8);
@@ -63,16 +63,32 @@ pub fn run() {
     code(3, 8, 0, 0, 3);
     code(3, 0, 0, 0, 4);
     code(11, 0, 0, 0, 0);
+}
+
+fn steps_of_001() {
     // r742 with steps (-1, +1, +1) gives r675; r0 with x -1 gives 7; the root has no neighbour
     neighbour(3, 994, -1, 1, 1);
     neighbour(3, 8, -1, 0, 0);
     neighbour(0, 1, 0, 0, 1);
+}
+
+fn along_y() {
     // r057 and r075 are neighbours along y
     neighbour(3, 559, 0, 1, 0);
     neighbour(3, 573, 0, -1, 0);
+}
+
+fn refused_steps() {
     // refusals in the order of the table: depth, code, direction
     neighbour(11, 0, 2, 0, 0);
     neighbour(3, 0, 2, 0, 0);
     neighbour(3, 559, 2, 0, 0);
     neighbour(3, 559, 0, 0, 0);
+}
+
+pub fn run() {
+    places_and_codes();
+    steps_of_001();
+    along_y();
+    refused_steps();
 }

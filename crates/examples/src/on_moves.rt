@@ -37,7 +37,7 @@ fn metres_x(name: &[u8], x: f64, y: f64, s: u32) {
     print::end();
 }
 
-pub fn run() {
+fn published() {
     // r057 by y: +5 gives r275, back r057, +1 gives r075, +6 is accepted, +7 leaves; -1 gives r055, -2 leaves
     whole(3, &[559], 0, 5, 0, 1);
     whole(3, &[701], 0, -5, 0, 1);
@@ -50,19 +50,31 @@ pub fn run() {
     whole(2, &[8], 1, 0, 0, 8);
     whole(2, &[65, 67, 69, 71, 72, 74, 76, 78], -1, 0, 0, 1);
     whole(2, &[8], 1, 0, 0, 7);
+}
+
+fn whole_cells() {
     // r at depth 0; the empty list takes every whole move
     whole(0, &[1], 0, 0, 0, 1);
     whole(0, &[1], 1, 0, 0, 1);
     whole(3, &[], -2147483648, 0, 0, 0);
     // a leaf of side 4 moved by 2 covers eight cells of side 2
     whole(3, &[8], 2, 0, 0, 8);
+}
+
+fn refused() {
     // the first leaf that leaves; a list that is refused
     whole(3, &[8, 9], 1, 0, 0, 64);
     whole(3, &[9, 8], 1, 0, 0, 64);
     whole(11, &[8], 1, 0, 0, 64);
 }
 
-pub fn run_metres() {
+pub fn run() {
+    published();
+    whole_cells();
+    refused();
+}
+
+fn rounded() {
     // a half goes up
     metres_x(b"0.0625", 0.0625, 0.0, 3);
     metres_x(b"-0.0625", -0.0625, 0.0, 3);
@@ -71,15 +83,27 @@ pub fn run_metres() {
     metres_x(b"-0.0", -0.0, 0.0, 3);
     metres_x(b"5e-324", 5e-324, 0.0, 3);
     metres_x(b"-5e-324", -5e-324, 0.0, 3);
+}
+
+fn no_numbers() {
     // what is no whole number of 32 bits
     metres_x(b"infinity", 1e308 * 10.0, 0.0, 3);
     metres_x(b"-infinity", -1e308 * 10.0, 0.0, 3);
     metres_x(b"0, and no number along y", 0.0, 0.0 / 0.0, 3);
     metres_x(b"the largest float", 1.7976931348623157e308, 0.0, 3);
     metres_x(b"no number, edge number 11", 0.0 / 0.0, 0.0, 11);
+}
+
+fn range_ends() {
     // the ends of the range: the rounded number is tested; one that is in range leaves the root
     metres_x(b"2147483647", 2147483647.0, 0.0, 0);
     metres_x(b"2147483647.5", 2147483647.5, 0.0, 0);
     metres_x(b"-2147483648.5", -2147483648.5, 0.0, 0);
     metres_x(b"-2147483649", -2147483649.0, 0.0, 0);
+}
+
+pub fn run_metres() {
+    rounded();
+    no_numbers();
+    range_ends();
 }

@@ -43,7 +43,7 @@ fn meet_neighbour(depth: u32, list: &[u32], code: u32, dx: i32, dy: i32, dz: i32
     print::end();
 }
 
-pub fn run() {
+fn checked_lists() {
     // the empty list is good, and so is the list of r alone
     check(3, &[]);
     check(3, &[1]);
@@ -54,6 +54,9 @@ pub fn run() {
     check(2, &[71, 9, 7]);
     check(2, &[71, 71]);
     check(11, &[7]);
+}
+
+fn volumes_and_voxels() {
     // a voxel, the root, and a list that is refused
     volume(3, &[559]);
     volume(3, &[1]);
@@ -64,6 +67,9 @@ pub fn run() {
     lookup(3, &[559], 3, 1, 2);
     lookup(3, &[559], 8, 0, 0);
     lookup(3, &[559, 559], 8, 0, 0);
+}
+
+fn leaves_met() {
     // beside r055 along y stands r057; beside r0 along x stands r1: a bigger leaf, the leaves within, none
     meet_neighbour(3, &[559], 557, 0, 1, 0);
     meet_neighbour(3, &[1], 8, 1, 0, 0);
@@ -71,4 +77,10 @@ pub fn run() {
     meet_neighbour(3, &[71, 10], 8, 1, 0, 0);
     meet_neighbour(3, &[71, 10], 8, -1, 0, 0);
     meet_neighbour(3, &[71, 10], 8, 0, 0, 0);
+}
+
+pub fn run() {
+    checked_lists();
+    volumes_and_voxels();
+    leaves_met();
 }

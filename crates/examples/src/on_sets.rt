@@ -47,13 +47,16 @@ fn less(depth: u32, a: &[u32], b: &[u32], room: usize) {
     }
 }
 
-pub fn run() {
+fn published() {
     // codes 8 to 11 joined with 12 to 15 give the root; one place suffices, none does not
     join(1, &[8, 9, 10, 11], &[12, 13, 14, 15], 1);
     join(1, &[8, 9, 10, 11], &[12, 13, 14, 15], 0);
     // r less r057 has 21 leaves and volume 511; 20 places are one short, and hold what they held: 0, which is no code
     less(3, &[1], &[559], 21);
     less(3, &[1], &[559], 20);
+}
+
+fn levels_and_refusals() {
     // a join that completes eight siblings on two levels
     join(
         2,
@@ -67,4 +70,9 @@ pub fn run() {
     join(11, &[0], &[0], 4);
     join(3, &[0], &[2], 4);
     join(3, &[559], &[559, 559], 4);
+}
+
+pub fn run() {
+    published();
+    levels_and_refusals();
 }
