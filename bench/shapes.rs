@@ -40,12 +40,13 @@ fn tone(all: bool, some: bool) -> Tone {
 fn pit(c: &Cube) -> Tone {
     let (low, high) = c.range(2);
     let inside = |lo: i64, hi: i64, z: i64| {
-        let k = (1023 - z) / 8 * 8;
-        (100 + k <= lo && hi < 900 - k, 100 + k <= hi && lo < 900 - k)
+        let k = (999 - z) / 8 * 8;
+        (60 + k <= lo && hi < 700 - k, 60 + k <= hi && lo < 700 - k)
     };
     let (x, y) = (c.range(0), c.range(1));
-    let all = inside(x.0, x.1, low).0 && inside(y.0, y.1, low).0;
-    let some = inside(x.0, x.1, high).1 && inside(y.0, y.1, high).1;
+    let all = high < 1000 && inside(x.0, x.1, low).0 && inside(y.0, y.1, low).0;
+    let top = high.min(999);
+    let some = low < 1000 && inside(x.0, x.1, top).1 && inside(y.0, y.1, top).1;
     tone(all, some)
 }
 
@@ -126,8 +127,8 @@ fn scatter(seed: u64) -> Vec<u32> {
         state[k] = state[k].wrapping_mul(6364136223846793005).wrapping_add(1442695040888963407);
         (state[k] >> 33) as u32
     };
-    // the lower half of the codes is common
-    let codes = (0..LEAVES + 200).map(|i| (1 << 30) + next(i % 2) % (1 << 30)).collect();
+    let mut coordinate = |k: usize| next(k) % 700;
+    let codes = (0..LEAVES + 200).map(|i| voxel([coordinate(i % 2), coordinate(i % 2), coordinate(i % 2)])).collect();
     voxels(codes)
 }
 

@@ -1,0 +1,74 @@
+//! Each public job against a plain Rust program that does the same, on the same inputs, in one run: medians in microseconds, and their ratio.
+//!
+//!     bench            the table
+//!     bench visited    target cells visited per output leaf, for each shape and move
+mod ours;
+mod plain;
+mod shapes;
+
+use plain::{Answer, Op};
+use shapes::{Shape, DEPTH};
+use std::time::Instant;
+
+const MOVES: [[i32; 3]; 4] = [[1, 0, 0], [1, 1, 1], [2, 2, 2], [256, 0, 0]];
+
+/// The median time of a job, in microseconds.
+fn median(runs: usize, mut job: impl FnMut()) -> f64 {
+    job();
+    let mut times: Vec<f64> = (0..runs)
+        .map(|_| {
+            let begun = Instant::now();
+            job();
+            begun.elapsed().as_secs_f64() * 1e6
+        })
+        .collect();
+    times.sort_by(|a, b| a.total_cmp(b));
+    times[runs / 2]
+}
+
+/// One row: both do the job, agree, and are timed by turns.
+fn row(shape: &Shape, job: &str, runs: usize, mut ours: impl FnMut() -> Answer, mut plain: impl FnMut() -> Answer) {
+    assert_eq!(ours(), plain(), "{} {job}", shape.name);
+    let a = median(runs, || {
+        std::hint::black_box(ours());
+    });
+    let b = median(runs, || {
+        std::hint::black_box(plain());
+    });
+    println!("| {} | {job} | {a:.0} | {b:.0} | {:.2} |", shape.name, a / b);
+}
+
+fn table() {
+    println!("| shape | job | proved, us | plain Rust, us | ratio |\n|---|---|---|---|---|");
+    let mut room = vec![0u32; 1 << 20];
+    let mut other = vec![0u32; 1 << 20];
+    for s in shapes::all() {
+        row(&s, "check", 301, || ours::check(DEPTH, &s.first), || plain::check(DEPTH, &s.first));
+        row(&s, "volume", 301, || ours::volume(DEPTH, &s.first), || plain::volume(DEPTH, &s.first));
+        for (name, op) in [("join", Op::Join), ("intersection", Op::Meet), ("difference", Op::Less)] {
+            row(&s, name, 101, || ours::set(op, DEPTH, &s.first, &s.second, &mut room), || plain::set(op, DEPTH, &s.first, &s.second, &mut other));
+        }
+        for d in MOVES {
+            let name = format!("move by {d:?}");
+            row(&s, &name, 11, || ours::shift(DEPTH, &s.first, d, &mut room), || plain::shift(DEPTH, &s.first, d, &mut other));
+        }
+    }
+}
+
+fn visited() {
+    println!("| shape | move | leaves out | cells visited | per leaf |\n|---|---|---|---|---|");
+    for s in shapes::all() {
+        for d in MOVES {
+            let (leaves, cells) = plain::displaced(DEPTH, &s.first, d, None);
+            println!("| {} | {d:?} | {leaves} | {cells} | {:.2} |", s.name, cells as f64 / leaves as f64);
+        }
+    }
+}
+
+fn main() {
+    match std::env::args().nth(1).as_deref() {
+        None => table(),
+        Some("visited") => visited(),
+        Some(_) => println!("bench [visited]"),
+    }
+}

@@ -1,0 +1,40 @@
+//! The proved calls, through the archive.
+use crate::plain::{Answer, Op};
+
+#[link(name = "probe", kind = "static")]
+extern "C" {
+    fn probe_check(depth: u32, list: *const u32, list_len: usize, answer: *mut u64, len: usize);
+    fn probe_volume(depth: u32, list: *const u32, list_len: usize, answer: *mut u64, len: usize);
+    fn probe_join(depth: u32, a: *const u32, a_len: usize, b: *const u32, b_len: usize, out: *mut u32, room: usize, answer: *mut u64, len: usize);
+    fn probe_meet(depth: u32, a: *const u32, a_len: usize, b: *const u32, b_len: usize, out: *mut u32, room: usize, answer: *mut u64, len: usize);
+    fn probe_less(depth: u32, a: *const u32, a_len: usize, b: *const u32, b_len: usize, out: *mut u32, room: usize, answer: *mut u64, len: usize);
+    fn probe_move(depth: u32, list: *const u32, list_len: usize, dx: i32, dy: i32, dz: i32, out: *mut u32, room: usize, answer: *mut u64, len: usize);
+}
+
+/// Number, place and list out of the answer's words.
+fn told(call: impl FnOnce(*mut u64, usize)) -> Answer {
+    let mut words = [0u64; 8];
+    call(words.as_mut_ptr(), words.len());
+    Answer { number: words[0] as u32, place: words[1], list: words[2] as u32 }
+}
+
+pub fn check(depth: u32, list: &[u32]) -> Answer {
+    told(|p, n| unsafe { probe_check(depth, list.as_ptr(), list.len(), p, n) })
+}
+
+pub fn volume(depth: u32, list: &[u32]) -> Answer {
+    told(|p, n| unsafe { probe_volume(depth, list.as_ptr(), list.len(), p, n) })
+}
+
+pub fn set(op: Op, depth: u32, a: &[u32], b: &[u32], out: &mut [u32]) -> Answer {
+    let call = match op {
+        Op::Join => probe_join,
+        Op::Meet => probe_meet,
+        Op::Less => probe_less,
+    };
+    told(|p, n| unsafe { call(depth, a.as_ptr(), a.len(), b.as_ptr(), b.len(), out.as_mut_ptr(), out.len(), p, n) })
+}
+
+pub fn shift(depth: u32, list: &[u32], d: [i32; 3], out: &mut [u32]) -> Answer {
+    told(|p, n| unsafe { probe_move(depth, list.as_ptr(), list.len(), d[0], d[1], d[2], out.as_mut_ptr(), out.len(), p, n) })
+}
