@@ -9,8 +9,7 @@ use Rattle.metres.specs.declared.inner.Coordinate.{Coordinate}
 use Rattle.metres.specs.declared.inner.Coordinate.the-variants.{Voxels, Bad}
 use mathlib.Core.Logic.{inl}
 use native.Mathlib.Omega.{arith}
-use Rattle.metres.specs.declared.Move.{Move}
-use Rattle.metres.specs.declared.Move.the-variants as MoveV
+use Rattle.metres.specs.declared.Metres.{Metres}
 use Rattle.metres.specs.declared.inner.Taken.the-variants as TakenV
 use Rattle.metres.specs.Taken.{TakenOf}
 use Rattle.metres.specs.Inner.{Rounded}
@@ -69,10 +68,8 @@ examples = holds table computes
 -- ---- whole moves
 
 -- 0.0625, -0.0625 and 0.1875 metres at the edge number s
-abbrev starred : ℕ → Move
-starred s =
-    MoveV.Metres
-    (record { x = ofBits binary64 0x3fb0_0000_0000_0000; y = ofBits binary64 0xbfb0_0000_0000_0000; z = ofBits binary64 0x3fc8_0000_0000_0000; s = s })
+abbrev starred : ℕ → Metres
+starred s = record { x = ofBits binary64 0x3fb0_0000_0000_0000; y = ofBits binary64 0xbfb0_0000_0000_0000; z = ofBits binary64 0x3fc8_0000_0000_0000; s = s }
 
 pub taken-holds : TakenOf (starred 3) (TakenV.Voxels (pos 1) (pos 0) (pos 2))
 taken-holds = together-taken _ (omega arith) (Voxels (pos 1)) (Voxels (pos 0)) (Voxels (pos 2)) (examples .0 .0) (examples .1 .0 .0) (examples .1 .1 .0 .0)

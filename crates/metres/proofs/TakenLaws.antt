@@ -1,9 +1,9 @@
--- The laws of `TakenOf`, what a move becomes.
+-- The laws of `TakenOf`, what a move in metres becomes.
 --     together-taken     three coordinates' outcomes, put together, are the move's
 --     one-becomes, one-taken     no second outcome fits a move
 --     bad-decides, whole-decides     how the outcome decides the same tests in a call above
 -- Assumes nothing.
-use mathlib.Core.Path.{_≡_, refl, sym, ap, _∙_, subst}
+use mathlib.Core.Path.{_≡_, refl, sym, ap, _∙_}
 use mathlib.Core.Logic.{_⊎_, inl, inr}
 use mathlib.Core.List.{List, [], _∷_}
 use Prim.Native.Nat.{ℕ, _≤_, _<_}
@@ -30,7 +30,7 @@ module _ (d : Metres) (low : d .s ≤ 10) where
   s-passes : 10 < d .s → ⊥
   s-passes h = omega arith
 
-  pub together-taken : (a b c : Coordinate) → Rounded (d .s) (d .x) a → Rounded (d .s) (d .y) b → Rounded (d .s) (d .z) c → TakenOf (MoveV.Metres d) (together a b c)
+  pub together-taken : (a b c : Coordinate) → Rounded (d .s) (d .x) a → Rounded (d .s) (d .y) b → Rounded (d .s) (d .z) c → TakenOf d (together a b c)
   unfolding Rounded
   together-taken Bad b c x y z = inr (passes s-passes, inl (_, (x, refl), refl))
   together-taken (Voxels i) Bad c x y z = inr (passes s-passes, inr (passes (λ h. h i x), inl (_, (y, refl), refl)))
@@ -53,9 +53,8 @@ one-row m r s (i, j, k, b, e) (i', j', k', b', e') =
     let (x, y, z) = one-becomes m i j k i' j' k' b b' in
     e ∙ rw (x, y, z) (sym e')
 
-one-outcome : (m : Move) → One (Decided inl (moveTests m) (Whole m))
-one-outcome (MoveV.Voxels i j k) = one-decided inl [] (Whole (MoveV.Voxels i j k)) tt (one-row (MoveV.Voxels i j k))
-one-outcome (MoveV.Metres d) = one-decided inl (moveTests (MoveV.Metres d)) (Whole (MoveV.Metres d)) (one-refuses, (one-refuses, (one-refuses, (one-refuses, tt)))) (one-row (MoveV.Metres d))
+one-outcome : (d : Metres) → One (Decided inl (moveTests (MoveV.Metres d)) (Whole (MoveV.Metres d)))
+one-outcome d = one-decided inl (moveTests (MoveV.Metres d)) (Whole (MoveV.Metres d)) (one-refuses, (one-refuses, (one-refuses, (one-refuses, tt)))) (one-row (MoveV.Metres d))
 
 same-three : (i j k i' j' k' : ℤ) → _≡_ {A = Answer ⊎ (ℤ × ℤ × ℤ)} (inr (i, j, k)) (inr (i', j', k')) → (i ≡ i') × (j ≡ j') × (k ≡ k')
 same-three i j k i' j' k' e =
@@ -70,8 +69,8 @@ one-told (TakenV.Voxels i j k) (TakenV.Voxels i' j' k') e =
     let (x, y, z) = same-three i j k i' j' k' e in
     rw (x, y, z)
 
-pub one-taken : (m : Move) → One (TakenOf m)
-one-taken m t t' h h' = one-told t t' (one-outcome m (told t) (told t') h h')
+pub one-taken : (d : Metres) → One (TakenOf d)
+one-taken d t t' h h' = one-told t t' (one-outcome d (told t) (told t') h h')
 
 -- ---- the same tests in a call above, which leaves `refuse a` where one refuses with a
 
@@ -86,13 +85,13 @@ module _ (W R : Type 0) (refuse : Answer → R) (Q : Answer ⊎ W → Type 0) (P
   passed-row (F ∷ Fs) v r f (inl (b, g, e)) = let z : _≡_ {A = ℕ} 0 1 = cc in absurd (omega arith)
   passed-row (F ∷ Fs) v r f (inr (n, d)) = inr (n, passed-row Fs v r f d)
 
-pub bad-decides : {R : Type 0} (refuse : Answer → R) (P : R → Type 0) (m : Move) (p : ℕ) → TakenOf m (TakenV.Bad p) → Decided refuse (moveTests m) P (refuse (answer 5 p 0))
-bad-decides {R} refuse P m p h = refused-row (ℤ × ℤ × ℤ) R refuse (Whole m) P (moveTests m) (answer 5 p 0) (λ q. let e = q .4 in let z : _≡_ {A = ℕ} 0 1 = cc in omega arith) h
+pub bad-decides : {R : Type 0} (refuse : Answer → R) (P : R → Type 0) (d : Metres) (p : ℕ) → TakenOf d (TakenV.Bad p) → Decided refuse (moveTests (MoveV.Metres d)) P (refuse (answer 5 p 0))
+bad-decides {R} refuse P d p h = refused-row (ℤ × ℤ × ℤ) R refuse (Whole (MoveV.Metres d)) P (moveTests (MoveV.Metres d)) (answer 5 p 0) (λ q. let e = q .4 in let z : _≡_ {A = ℕ} 0 1 = cc in omega arith) h
 
-pub whole-decides : {R : Type 0} (refuse : Answer → R) (P : R → Type 0) (m : Move) (i j k : ℤ) (r : R) → TakenOf m (TakenV.Voxels i j k) → (Becomes m i j k → P r) → Decided refuse (moveTests m) P r
-whole-decides {R} refuse P m i j k r h f = passed-row (ℤ × ℤ × ℤ) R refuse (Whole m) P (moveTests m) (i, j, k) r same h
+pub whole-decides : {R : Type 0} (refuse : Answer → R) (P : R → Type 0) (d : Metres) (i j k : ℤ) (r : R) → TakenOf d (TakenV.Voxels i j k) → (Becomes (MoveV.Metres d) i j k → P r) → Decided refuse (moveTests (MoveV.Metres d)) P r
+whole-decides {R} refuse P d i j k r h f = passed-row (ℤ × ℤ × ℤ) R refuse (Whole (MoveV.Metres d)) P (moveTests (MoveV.Metres d)) (i, j, k) r same h
   where
-    same : Whole m (inr (i, j, k)) → P r
+    same : Whole (MoveV.Metres d) (inr (i, j, k)) → P r
     same (i', j', k', b, e) =
         let (x, y, z) = same-three i j k i' j' k' e in
         f (rw (← x, ← y, ← z) at b)

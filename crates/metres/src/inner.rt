@@ -4,7 +4,6 @@
 // `f64` again and nothing is lost, since only the exponent changes (`halved`). Its whole part counts half voxels, and whether something is over tells a half
 // from more than a half. `size` is the tie rule, and the only place that knows it. `fit` is the range of 32 bits.
 use crate::Metres;
-use crate::Move;
 ghost use mathlib.Core.Path.{_≡_};
 ghost use mathlib.Core.Bool.{false};
 ghost use Prim.Native.Nat.{_+_, _*_, _^_, _<_, _≤_};
@@ -131,21 +130,16 @@ fn joined(x: Coordinate, y: Coordinate, z: Coordinate) -> Taken
     Taken::Voxels(i, j, k)
 }
 
-// The move in whole voxels.
-pub fn in_voxels(m: Move) -> Taken
-    ensures { λ r. ⌜ TakenOf m r ⌝ }
+// The move in metres as one in whole voxels.
+pub fn in_voxels(d: Metres) -> Taken
+    ensures { λ r. ⌜ TakenOf d r ⌝ }
 {
-    match m {
-        Move::Voxels(x, y, z) => Taken::Voxels(x, y, z),
-        Move::Metres(k) => {
-            let s = k.s;
-            if s > 10 {
-                return Taken::Bad(3);
-            }
-            let x = nearest(k.x, s);
-            let y = nearest(k.y, s);
-            let z = nearest(k.z, s);
-            joined(x, y, z)
-        }
+    let s = d.s;
+    if s > 10 {
+        return Taken::Bad(3);
     }
+    let x = nearest(d.x, s);
+    let y = nearest(d.y, s);
+    let z = nearest(d.z, s);
+    joined(x, y, z)
 }

@@ -23,6 +23,7 @@ use Rattle.metres.specs.Metres.{Nearest, Whole}
 use Rattle.metres.specs.declared.Move.{Move}
 use Rattle.metres.specs.declared.Move.the-variants as MoveV
 use Rattle.metres.specs.Taken.{TakenOf}
+use Rattle.metres.specs.declared.Metres.{Metres}
 use Rattle.metres.specs.Inner.{Rounded}
 use Rattle.metres.specs.declared.inner.Coordinate.the-variants as CoordinateV
 use Rattle.metres.specs.declared.inner.Taken.the-variants as TakenV
@@ -30,10 +31,10 @@ use Rattle.metres.proofs.Rounding.{rounded, rounded-exists}
 use Rattle.metres.proofs.TakenLaws.{together-taken, whole-decides}
 use Rattle.shifts.specs.Labels.{sumLabel, carryLabel}
 use Rattle.shifts.specs.Shift.{shift, shifted}
-use Rattle.moves.specs.Moves.{FromBlack, ShiftOf, MoveOf}
+use Rattle.moves.specs.Moves.{FromBlack, ShiftOf, ByVoxels, MoveOf}
 use Rattle.moves.specs.Inner.{keepsAlong, leafKeeps, turned, back}
 use Rattle.moves.proofs.Acceptance.{partsOf}
-use Rattle.moves.proofs.MoveLaws.{Moved, move-of, stay, stays-accepted, moved-list, leaves-told, room-told, one-move}
+use Rattle.moves.proofs.MoveLaws.{move-of, stay, stays-accepted, moved-list, leaves-told, room-told, one-move}
 
 -- ---- a move by whole voxels, worked out
 
@@ -145,8 +146,11 @@ none-holds o = written none-works o (omega arith)
 
 -- ---- in metres: 0.625 m along y is 5 voxels of an eighth of a metre; a NaN is refused at its place
 
+abbrev along-y : Float → Metres
+along-y d = record { x = ofBits binary64 0; y = d; z = ofBits binary64 0; s = 3 }
+
 abbrev metres : Float → Move
-metres d = MoveV.Metres (record { x = ofBits binary64 0; y = d; z = ofBits binary64 0; s = 3 })
+metres d = MoveV.Metres (along-y d)
 
 zero-rounds : rounded 3 (ofBits binary64 0) ≡ CoordinateV.Voxels (pos 0)
 unfolding rounded ofBits
@@ -158,12 +162,12 @@ five-rounds = refl
 
 pub metres-holds : MoveOf 3 r057 (metres (ofBits binary64 0x3fe4_0000_0000_0000)) (5 ∷ 5 ∷ []) (given 1) (701 ∷ 5 ∷ [])
 metres-holds =
-    let m = metres (ofBits binary64 0x3fe4_0000_0000_0000) in
+    let d = along-y (ofBits binary64 0x3fe4_0000_0000_0000) in
     let none : Rounded 3 (ofBits binary64 0) (CoordinateV.Voxels (pos 0)) = subst (Rounded 3 (ofBits binary64 0)) zero-rounds (rounded-exists 3 (ofBits binary64 0)) in
     let five : Rounded 3 (ofBits binary64 0x3fe4_0000_0000_0000) (CoordinateV.Voxels (pos 5)) = subst (Rounded 3 (ofBits binary64 0x3fe4_0000_0000_0000)) five-rounds (rounded-exists 3 (ofBits binary64 0x3fe4_0000_0000_0000)) in
-    let taken : TakenOf m (TakenV.Voxels (pos 0) (pos 5) (pos 0)) = together-taken _ (omega arith) (CoordinateV.Voxels (pos 0)) (CoordinateV.Voxels (pos 5)) (CoordinateV.Voxels (pos 0)) none five none in
-    move-of 3 r057 m (5 ∷ 5 ∷ []) _ _ (omega arith) (good r057-works)
-    (whole-decides (keeping (5 ∷ 5 ∷ [])) (Moved 3 r057 m (5 ∷ 5 ∷ [])) m (pos 0) (pos 5) (pos 0) _ taken (λ b. (pos 0, pos 5, pos 0, b, shift-written r057-works (5 ∷ 5 ∷ []) (omega arith))))
+    let taken : TakenOf d (TakenV.Voxels (pos 0) (pos 5) (pos 0)) = together-taken _ (omega arith) (CoordinateV.Voxels (pos 0)) (CoordinateV.Voxels (pos 5)) (CoordinateV.Voxels (pos 0)) none five none in
+    move-of 3 r057 (MoveV.Metres d) (5 ∷ 5 ∷ []) _ _ (omega arith) (good r057-works)
+    (whole-decides (keeping (5 ∷ 5 ∷ [])) (ByVoxels 3 r057 (MoveV.Metres d) (5 ∷ 5 ∷ [])) d (pos 0) (pos 5) (pos 0) _ taken (λ b. (pos 0, pos 5, pos 0, b, shift-written r057-works (5 ∷ 5 ∷ []) (omega arith))))
 
 pub nan-refused : MoveOf 3 r057 (metres (ofBits binary64 0x7ff8_0000_0000_0000)) (5 ∷ []) (answer 5 1 0) (5 ∷ [])
 unfolding Rounded Nearest ofBits

@@ -23,21 +23,17 @@ use Rattle.metres.specs.declared.Move.{Move}
 use Rattle.metres.specs.declared.Move.the-variants as MoveV
 use Rattle.metres.proofs.TakenLaws.{one-becomes}
 use Rattle.shifts.specs.Shift.{shifted}
-use Rattle.moves.specs.Moves.{FirstLeaves, Leaving, FromBlack, ShiftOf, MoveOf}
+use Rattle.moves.specs.Moves.{FirstLeaves, Leaving, FromBlack, ShiftOf, ByVoxels, MoveOf}
 use Rattle.moves.specs.Inner.{leafKeeps, FirstOut, back}
 use Rattle.moves.specs.declared.inner.Parted.{Parted}
 use Rattle.moves.proofs.Acceptance.{partsOf, parts-of, AllParts, all-parts, Accepted, accepted-stays, first-leaves, all-stay}
 use Rattle.moves.proofs.Back.{shifted-exactly}
 
--- a move by the whole voxels that m becomes
-abbrev pub Moved : ℕ → List ℕ → Move → List ℕ → Answer × List ℕ → Type 0
-Moved D l m o t = (dx : ℤ) × (dy : ℤ) × (dz : ℤ) × Becomes m dx dy dz × ShiftOf D l dx dy dz o t
-
 -- ---- the answer worked out
 
 -- past the tests of the depth, the list and the move
 pub move-of : (D : ℕ) (l : List ℕ) (m : Move) (o : List ℕ) (r : Answer) (o' : List ℕ) → D ≤ deepest → Good D l
-    → Decided (keeping o) (moveTests m) (Moved D l m o) (r, o') → MoveOf D l m o r o'
+    → Decided (keeping o) (moveTests m) (ByVoxels D l m o) (r, o') → MoveOf D l m o r o'
 move-of D l m o r o' h good d = inr (passes (deep-enough h), inr (passes (λ g. omega (arith, faultless-iff-good D l .1 good)), d))
 
 module _ (D : ℕ) (l : List ℕ) (dx dy dz : ℤ) where
@@ -103,7 +99,7 @@ one-move D l m o = one-decided (keeping o) (TooDeep D ∷ Faulty D l 1 ∷ moveT
     tests (MoveV.Voxels i j k) = tt
     tests (MoveV.Metres d) = (one-refuses, (one-refuses, (one-refuses, (one-refuses, tt))))
 
-    whole : One (Moved D l m o)
+    whole : One (ByVoxels D l m o)
     whole r s (i, j, k, b, h) (i', j', k', b', h') =
         let (p, q, u) = one-becomes m i j k i' j' k' b b' in
         one-shift D l i j k o r s h (rw (p, q, u) h')

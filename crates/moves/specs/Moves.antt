@@ -39,8 +39,11 @@ ShiftOf D l dx dy dz o =
     Decided (keeping o) (Leaving D dx dy dz l ∷ Crowded D (FromBlack D dx dy dz l) o ∷ [])
     (Written D (FromBlack D dx dy dz l) o)
 
+-- a move by the whole voxels that m becomes
+abbrev pub ByVoxels : ℕ → List ℕ → Move → List ℕ → Answer × List ℕ → Type 0
+ByVoxels D l m o t = (dx : ℤ) × (dy : ℤ) × (dz : ℤ) × Becomes m dx dy dz × ShiftOf D l dx dy dz o t
+
 -- THE CALL move_list, on the list l, the move m and the buffer o: the answer r and the buffer o' afterwards
 abbrev pub MoveOf : ℕ → List ℕ → Move → List ℕ → Answer → List ℕ → Type 0
 MoveOf D l m o r o' =
-    Decided (keeping o) (TooDeep D ∷ Faulty D l 1 ∷ moveTests m)
-    (λ t. (dx : ℤ) × (dy : ℤ) × (dz : ℤ) × Becomes m dx dy dz × ShiftOf D l dx dy dz o t) (r, o')
+    Decided (keeping o) (TooDeep D ∷ Faulty D l 1 ∷ moveTests m) (ByVoxels D l m o) (r, o')

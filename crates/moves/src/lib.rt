@@ -5,15 +5,18 @@ use crate::inner::part;
 use cells::Answer;
 use cells::inner::refusal;
 use cells::inner::success;
+use metres::Metres;
 use metres::Move;
 use metres::inner::Taken;
 use metres::inner::in_voxels;
 use records::checks::check;
 use shifts::inner::descent::shift_list;
 ghost use Prim.Native.Nat.{_≤_};
-ghost use Rattle.cells.specs.Answer.{deepest};
+ghost use Rattle.cells.specs.Answer.{Decided, keeping, deepest};
 ghost use Rattle.records.specs.Record.{Ordered};
-ghost use Rattle.moves.specs.Moves.{ShiftOf, MoveOf};
+ghost use Rattle.metres.specs.Metres.{moveTests};
+ghost use Rattle.metres.specs.declared.Move.the-variants as the-move;
+ghost use Rattle.moves.specs.Moves.{ShiftOf, ByVoxels, MoveOf};
 
 pub mod inner;
 
@@ -38,6 +41,18 @@ fn move_whole(depth: u32, list: &[u32], dx: i32, dy: i32, dz: i32, out: &mut [u3
     success(place as u64)
 }
 
+// The same for a move in metres: 5 where it is no whole move.
+fn move_metres(depth: u32, list: &[u32], d: Metres, out: &mut [u32]) -> Answer
+    requires { ⌜ (depth ≤ deepest) × Ordered depth 0 (now list) ⌝ }
+    ensures { λ r. ⌜ Decided (keeping (now (out .entry))) (moveTests (the-move.Metres d)) (ByVoxels depth (now (list .entry)) (the-move.Metres d) (now (out .entry))) (r, now (out .exit)) ⌝ }
+{
+    let taken = in_voxels(d);
+    match taken {
+        Taken::Bad(place) => refusal(5, place as u64, 0),
+        Taken::Voxels(dx, dy, dz) => move_whole(depth, list, dx, dy, dz, out),
+    }
+}
+
 // The good list of the displaced voxels, at the front of `out`, and its number of leaves. Refused as `check` is, then 5 for a move in metres that is no whole
 // move, 7 with the first leaf that leaves the root, 8 with the leaves needed; `out` then stays as it is.
 pub fn move_list(depth: u32, list: &[u32], m: Move, out: &mut [u32]) -> Answer
@@ -48,9 +63,8 @@ pub fn move_list(depth: u32, list: &[u32], m: Move, out: &mut [u32]) -> Answer
     if number != 0 {
         return listed;
     }
-    let taken = in_voxels(m);
-    match taken {
-        Taken::Bad(place) => refusal(5, place as u64, 0),
-        Taken::Voxels(dx, dy, dz) => move_whole(depth, list, dx, dy, dz, out),
+    match m {
+        Move::Voxels(dx, dy, dz) => move_whole(depth, list, dx, dy, dz, out),
+        Move::Metres(d) => move_metres(depth, list, d, out),
     }
 }

@@ -1,17 +1,16 @@
 -- The sum label by label: along each axis it is the sum modulo the cube's side, and a slot of a child cell is a part of a slot of its parent. Assumes nothing.
 use mathlib.Core.Path.{_≡_, refl, sym, ap, _∙_}
 use mathlib.Core.List.{List}
-use mathlib.Core.Bool.{true, false}
 use Prim.Native.Nat.{ℕ, zero, suc, _+_, _-_, _*_, _/_, _%_, _^_, _<_, _≤_, max}
-use native.Mathlib.Nat.{sub-zero, mod-one, one-le-pow, zero-mul, pow-zero, div-one, pow-suc, div-div-eq-div-mul, mul-comm, mul-left-comm}
+use native.Mathlib.Nat.{sub-zero, mod-one, zero-mul, pow-zero, div-one, pow-suc, div-div-eq-div-mul, mul-comm, mul-left-comm}
 use native.Mathlib.Omega.{arith}
 use lib.Arith.{mod-mul}
-use borrow.Author.Tests.{lt-ltb, le-ltb}
+use borrow.Author.Tests.{lt-ltb}
 use Rattle.cells.specs.Place.{along}
 use Rattle.cells.proofs.Power.{pow2-suc, pow8-pos, pow8-suc}
 use Rattle.cells.proofs.Places.{along-step}
 use Rattle.records.specs.Record.{black}
-use Rattle.shifts.specs.Labels.{ones, sumLabel, carryLabel, joinLabel, Uses}
+use Rattle.shifts.specs.Labels.{sumLabel, carryLabel, Uses}
 use Rattle.shifts.specs.Shift.{shift, shifted, carry, cellOf, need}
 use Rattle.shifts.proofs.Bits.{bit, same-label, zero-bit, sum-lt, sum-bit, carry-lt, carry-bit, join-lt, join-bit, uses-none, none-used, uses-carry}
 

@@ -9,14 +9,14 @@ use lib.ListN.{length, getD}
 use Rattle.cells.specs.Cell.{start, span, proper}
 use Rattle.cells.proofs.Power.{le-or-lt}
 use Rattle.cells.proofs.Cells.{span-pos}
-use Rattle.records.specs.Record.{black, Ordered}
+use Rattle.records.specs.Record.{Ordered}
 use Rattle.records.proofs.Lists.{held, before-cell, after-cell}
 use Rattle.records.proofs.Fault.{in-order}
 use Rattle.records.proofs.Search.{proper-at}
 use Rattle.emit.specs.declared.inner.Runs.{Runs}
 use Rattle.emit.specs.Inner.{Ready, Fed}
 use Rattle.emit.proofs.Runs.{fed-none, fed-white, fed-then}
-use Rattle.shifts.specs.Slot.{Part, Of, Inside, Copies}
+use Rattle.shifts.specs.Slot.{Of, Inside, Copies}
 use Rattle.shifts.specs.declared.inner.slots.Slot.{Slot}
 use Rattle.shifts.proofs.Parts.{part-off, part-white, part-black, black-at}
 

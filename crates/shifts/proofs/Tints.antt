@@ -1,8 +1,8 @@
 -- Laws of tints: one slot after the other. Assumes nothing.
-use mathlib.Core.Path.{_≡_, refl, sym, ap, _∙_, subst}
+use mathlib.Core.Path.{_≡_, refl, subst}
 use mathlib.Core.List.{List}
 use mathlib.Core.Logic.{⊎-elim}
-use Prim.Native.Nat.{ℕ, suc, _+_, _<_, _≤_}
+use Prim.Native.Nat.{ℕ, _+_, _<_, _≤_}
 use native.Mathlib.Omega.{arith}
 use Rattle.shifts.specs.declared.inner.slots.Tint.{Tint}
 use Rattle.shifts.specs.declared.inner.slots.Tint.the-variants.{White, Black, Mixed}

@@ -1,5 +1,5 @@
--- `moves::move_list` meets its contract: the list's tests, then what the move becomes decides, then the move by whole voxels. Assumes nothing.
-use mathlib.Core.Path.{_≡_, refl, sym, ap, _∙_, subst}
+-- `moves::move_list` meets its contract: the list's tests, then the move's own, by its case. Assumes nothing.
+use mathlib.Core.Path.{_≡_, refl, sym, subst}
 use mathlib.Core.List.{List}
 use Prim.Native.Nat.{ℕ}
 use borrow.Author.Needs.{needs}
@@ -7,17 +7,13 @@ use lib.IntN.{ℤ}
 use mir.Syntax.{w32}
 use mir.Val.{toZ, ofZ}
 use mir.Facts.{toZ-ofZ}
-use Rattle.cells.specs.Answer.{answer, Decided, keeping}
+use Rattle.cells.specs.Answer.{Decided, keeping}
 use Rattle.cells.specs.declared.Answer.{Answer}
 use Rattle.records.proofs.CallLaws.{Checked, check-first, check-next, checked}
 use Rattle.metres.specs.Metres.{moveTests}
-use Rattle.metres.specs.Taken.{TakenOf}
 use Rattle.metres.specs.declared.Move.{Move}
-use Rattle.metres.specs.declared.inner.Taken.{Taken}
-use Rattle.metres.specs.declared.inner.Taken.the-variants.{Voxels, Bad}
-use Rattle.metres.proofs.TakenLaws.{bad-decides, whole-decides}
-use Rattle.moves.specs.Moves.{ShiftOf, MoveOf}
-use Rattle.moves.proofs.MoveLaws.{Moved}
+use Rattle.metres.specs.declared.Move.the-variants as the-move
+use Rattle.moves.specs.Moves.{ShiftOf, ByVoxels, MoveOf}
 use Rattle.moves.proofs.move_list.Statement.{statement}
 use Rattle.moves.proofs.move_list.Tie as tie
 
@@ -33,11 +29,11 @@ module _ (c : tie.Else1) where
   pass : Checked (s .args .depth) (s .args .list .now) (c .before .check .result .place)
   pass = checked (s .args .depth) (s .args .list .now) (c .before .check .result) (c .before .check .ensures) none
 
-  next : (t : Answer × List ℕ) → Decided (keeping (s .args .out .now)) (moveTests (s .args .m)) (Moved (s .args .depth) (s .args .list .now) (s .args .m) (s .args .out .now)) t
+  next : (t : Answer × List ℕ) → Decided (keeping (s .args .out .now)) (moveTests (s .args .m)) (ByVoxels (s .args .depth) (s .args .list .now) (s .args .m) (s .args .out .now)) t
       → MoveOf (s .args .depth) (s .args .list .now) (s .args .m) (s .args .out .now) (t .0) (t .1)
   next t d =
       let a = s .args in
-      check-next (a .depth) (a .list .now) (c .before .check .result) (c .before .check .ensures) (keeping (a .out .now)) (moveTests (a .m)) (Moved (a .depth) (a .list .now) (a .m) (a .out .now)) t none d
+      check-next (a .depth) (a .list .now) (c .before .check .result) (c .before .check .ensures) (keeping (a .out .now)) (moveTests (a .m)) (ByVoxels (a .depth) (a .list .now) (a .m) (a .out .now)) t none d
 
 -- ---- the needs
 
@@ -48,58 +44,54 @@ returns : tie.Need-returns
 returns c =
     let t = c .before in
     let a = t .before .before .before .args in
-    check-first (a .depth) (a .list .now) (t .check .result) (t .check .ensures) (keeping (a .out .now)) (moveTests (a .m)) (Moved (a .depth) (a .list .now) (a .m) (a .out .now)) (c .if1 .taken)
+    check-first (a .depth) (a .list .now) (t .check .result) (t .check .ensures) (keeping (a .out .now)) (moveTests (a .m)) (ByVoxels (a .depth) (a .list .now) (a .m) (a .out .now)) (c .if1 .taken)
 
-in-voxels-requires : tie.Need-in-voxels-requires
-in-voxels-requires c κs = search needs
-
-enum-known-taken : tie.Need-enum-known-taken
-enum-known-taken c = search needs
-
-cast-refusal : tie.Need-cast-refusal
-cast-refusal c = search needs
-
-refusal-requires : tie.Need-refusal-requires
-refusal-requires c κs = search needs
-
-enum-known-taken-2 : tie.Need-enum-known-taken-2
-enum-known-taken-2 c = search needs
+enum-known-m : tie.Need-enum-known-m
+enum-known-m c = search needs
 
 move-whole-requires : tie.Need-move-whole-requires
-move-whole-requires c κs = let k = pass (c .before .before .before .before .before) in (k .shallow, k .good .ordered)
+move-whole-requires c κs = let k = pass (c .before .before .before .before) in (k .shallow, k .good .ordered)
 
-returns-2 : tie.Need-returns-2
-returns-2 c =
-    let t = c .before .before in
-    let v = t .before .before in
-    let e = v .before in
-    let a = s e .args in
-    let p = t .taken .given .0 .0 in
-    let told : TakenOf (a .m) (Bad p) = subst (TakenOf (a .m)) (t .taken .given .1) (v .in-voxels .ensures) in
-    next e (c .refusal .result, a .out .now)
-    (subst (λ (r : Answer). Decided (keeping (a .out .now)) (moveTests (a .m)) (Moved (a .depth) (a .list .now) (a .m) (a .out .now)) (r, a .out .now)) (sym (c .refusal .ensures))
-    (bad-decides (keeping (a .out .now)) (Moved (a .depth) (a .list .now) (a .m) (a .out .now)) (a .m) p told))
+enum-known-m-2 : tie.Need-enum-known-m-2
+enum-known-m-2 c = search needs
+
+move-metres-requires : tie.Need-move-metres-requires
+move-metres-requires c κs = let k = pass (c .before .before .before .before) in (k .shallow, k .good .ordered)
 
 same-length : tie.Need-same-length
 same-length c = search needs
 
-returns-3 : tie.Need-returns-3
-returns-3 c =
+-- whole voxels: no test of their own
+returns-2 : tie.Need-returns-2
+returns-2 c =
     let w = c .before .before .move-whole in
     let t = c .before .before .before .before .before in
-    let f = c .before .before .before .before .known-told2 .given in
-    let v = t .before .before in
-    let e = v .before in
+    let f = c .before .before .before .before .known-told .given in
+    let e = t .before .before in
     let a = s e .args in
-    let g = t .taken2 .given .0 in
+    let g = t .m .given .0 in
     let x : toZ w32 (ofZ w32 (g .0)) ≡ g .0 = toZ-ofZ {w = w32} {z = g .0} (record { sfits = f .0 .1 }) in
     let y : toZ w32 (ofZ w32 (g .1 .0)) ≡ g .1 .0 = toZ-ofZ {w = w32} {z = g .1 .0} (record { sfits = f .1 .0 .1 }) in
     let z : toZ w32 (ofZ w32 (g .1 .1 .0)) ≡ g .1 .1 .0 = toZ-ofZ {w = w32} {z = g .1 .1 .0} (record { sfits = f .1 .1 .0 .1 }) in
-    let told : TakenOf (a .m) (Voxels (g .0) (g .1 .0) (g .1 .1 .0)) = subst (TakenOf (a .m)) (t .taken2 .given .1) (v .in-voxels .ensures) in
-    let moved : ShiftOf (a .depth) (a .list .now) (g .0) (g .1 .0) (g .1 .1 .0) (a .out .now) (w .result, w .last .1 .1 .1 .1 .1 .0) = rw (x, y, z) at (w .ensures) in
-    next e (w .result, w .last .1 .1 .1 .1 .1 .0)
-    (whole-decides (keeping (a .out .now)) (Moved (a .depth) (a .list .now) (a .m) (a .out .now)) (a .m) (g .0) (g .1 .0) (g .1 .1 .0) (w .result, w .last .1 .1 .1 .1 .1 .0) told
-    (λ becomes. (g .0, g .1 .0, g .1 .1 .0, becomes, moved)))
+    let left : Answer × List ℕ = (w .result, w .last .1 .1 .1 .1 .1 .0) in
+    let moved : ShiftOf (a .depth) (a .list .now) (g .0) (g .1 .0) (g .1 .1 .0) (a .out .now) left = rw (x, y, z) at (w .ensures) in
+    next e left
+    (subst (λ (m : Move). Decided (keeping (a .out .now)) (moveTests m) (ByVoxels (a .depth) (a .list .now) m (a .out .now)) left) (sym (t .m .given .1))
+    (g .0, g .1 .0, g .1 .1 .0, (refl, refl, refl), moved))
+
+same-length-2 : tie.Need-same-length-2
+same-length-2 c = search needs
+
+-- metres: their tests
+returns-3 : tie.Need-returns-3
+returns-3 c =
+    let w = c .before .before .move-metres in
+    let t = c .before .before .before .before .before in
+    let e = t .before .before in
+    let a = s e .args in
+    let left : Answer × List ℕ = (w .result, w .last .1 .1 .1 .0) in
+    next e left
+    (subst (λ (m : Move). Decided (keeping (a .out .now)) (moveTests m) (ByVoxels (a .depth) (a .list .now) m (a .out .now)) left) (sym (t .m2 .given .1)) (w .ensures))
 
 pub move-list-spec : {M : Type 1} → statement M
 move-list-spec =
@@ -107,12 +99,11 @@ move-list-spec =
     (tie.spec
     check-requires
     returns
-    in-voxels-requires
-    enum-known-taken
-    cast-refusal
-    refusal-requires
-    enum-known-taken-2
+    enum-known-m
     move-whole-requires
-    returns-2
+    enum-known-m-2
+    move-metres-requires
     same-length
+    returns-2
+    same-length-2
     returns-3)

@@ -1,6 +1,5 @@
 -- The proof of the cycle of calls {shift_cell, shift_children}. The measures are 2 * k and 2 * k + 1, k the levels left. Assumes nothing.
 use mathlib.Core.Path.{_≡_, sym, ap, _∙_, subst}
-use mathlib.Core.Bool.{Bool, true, false}
 use mathlib.Core.List.{List}
 use Prim.Native.Nat.{ℕ, suc, _+_, _-_, _*_, _/_, _%_, _^_, _≤_, _<_}
 use native.Mathlib.Omega.{arith}
@@ -285,7 +284,7 @@ module _ (t : ℕ) where
   shift-children-loop-holds c = children-none (c .before .before .before .pre .1 .6)
 
   shift-children-pick-requires : shift-children-lts.Need-pick-requires (children-calls t) (shift-children-at t) shift-children.Post shift-children-Inv-loop shift-children-μ-loop
-  shift-children-pick-requires c κs = (omega arith, c .loop-test .taken)
+  shift-children-pick-requires c κs = (omega arith, omega arith)
 
   shift-children-shift-cell-requires : shift-children-lts.Need-shift-cell-requires (children-calls t) (shift-children-at t) shift-children.Post shift-children-Inv-loop shift-children-μ-loop
   shift-children-shift-cell-requires c κs =

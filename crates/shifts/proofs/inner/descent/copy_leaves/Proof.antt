@@ -1,12 +1,7 @@
 -- `shifts::inner::descent::copy_leaves` meets its contract. The loop's invariant: the leaves before place i are copied. Assumes nothing.
-use mathlib.Core.Path.{_≡_, refl, sym, ap, _∙_, subst}
-use mathlib.Core.List.{List}
-use mathlib.Core.Bool.{Bool, true}
-use Prim.Native.Nat.{ℕ, suc, _+_, _-_, _*_, _^_, _≤_, _<_}
+use Prim.Native.Nat.{_-_}
 use native.Mathlib.Omega.{arith}
 use borrow.Author.Needs.{needs}
-use lib.ListN.{length, getD}
-use Rattle.cells.specs.Cell.{start, span}
 use Rattle.cells.proofs.Words.{pow8-small}
 use Rattle.records.proofs.Search.{proper-at}
 use Rattle.shifts.proofs.Copying.{Copied, copied-none, copied-next, copied-all, leaf-low, leaf-top, leaf-some, leaf-ready}

@@ -1,12 +1,12 @@
 -- `shifts::inner::descent::needs` meets its contract. The loop's invariant: the places up to n are filled. Assumes nothing.
-use mathlib.Core.Path.{_≡_, refl, sym, ap, _∙_, subst}
+use mathlib.Core.Path.{_≡_, refl, _∙_, subst}
 use mathlib.Core.List.{List, [], _∷_}
-use Prim.Native.Nat.{ℕ, zero, suc, _+_, _-_, _*_, _/_, _%_, _^_, _≤_, _<_}
+use Prim.Native.Nat.{ℕ, zero, suc, _-_, _/_, _%_, _^_, _≤_, _<_}
 use native.Mathlib.Nat.{pow-zero, div-one}
 use native.Mathlib.Numerals.{add-one}
 use native.Mathlib.Omega.{arith}
 use borrow.Author.Needs.{needs}
-use lib.ListN.{length, getD, set}
+use lib.ListN.{getD, set}
 use Rattle.shifts.specs.Labels.{joinLabel}
 use Rattle.shifts.specs.Shift.{need}
 use Rattle.shifts.proofs.Adder.{need-lt, div-up}
@@ -56,7 +56,7 @@ loop-holds c =
 join-label-requires : tie.Need-join-label-requires Inv-loop μ-loop
 join-label-requires c κs =
     let u = c .before .loop in
-    (subst (λ (m : ℕ). m < 8) (sym (u .inv .now)) (need-lt (u .n) (c .before .before .args .w)), omega arith)
+    (omega (arith, u .inv .now, need-lt (u .n) (c .before .before .args .w)), omega arith)
 
 add-n : tie.Need-add-n Inv-loop μ-loop
 add-n c = search needs

@@ -1,5 +1,5 @@
 -- `shifts::inner::slots::add_slot` meets its contract. Assumes nothing.
-use mathlib.Core.Path.{_≡_, sym, subst}
+use mathlib.Core.Path.{sym, subst}
 use Rattle.shifts.specs.Slot.{Adds}
 use Rattle.shifts.proofs.Tints.{adds-merged, adds-none}
 use borrow.Author.Needs.{needs}

@@ -1,9 +1,9 @@
 -- `shifts::inner::slots::colour` meets its contract. The loop's invariant: r is the tint of the slots before q. Assumes nothing.
 use mathlib.Core.Path.{_≡_, subst}
-use Prim.Native.Nat.{ℕ, _+_, _-_, _≤_, _<_}
+use Prim.Native.Nat.{ℕ, _-_, _≤_}
 use native.Mathlib.Omega.{arith}
 use borrow.Author.Needs.{needs}
-use Rattle.shifts.specs.Slot.{SlotsTint, slotAt}
+use Rattle.shifts.specs.Slot.{SlotsTint}
 use Rattle.shifts.proofs.Bits.{uses-none}
 use Rattle.shifts.proofs.Tints.{tint-first, tint-more}
 use Rattle.shifts.proofs.inner.slots.colour.Statement.{statement}

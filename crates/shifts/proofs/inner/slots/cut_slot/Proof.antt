@@ -1,20 +1,19 @@
 -- `shifts::inner::slots::cut_slot` meets its contract. The loop's invariant: the parts before child m are cut, and i is the cut before it. Assumes nothing.
-use mathlib.Core.Path.{_≡_, refl, sym, ap, _∙_, subst}
+use mathlib.Core.Path.{_≡_, refl, ap, _∙_, subst}
 use mathlib.Core.List.{List}
 use Prim.Native.Nat.{ℕ, suc, _+_, _-_, _*_, _/_, _^_, _≤_, _<_}
 use native.Mathlib.Nat.{div-add-mod', zero-mul}
 use native.Mathlib.Numerals.{add-one}
 use native.Mathlib.Omega.{arith}
 use borrow.Author.Needs.{needs}
-use lib.ListN.{length, getD, set}
-use Rattle.cells.specs.Cell.{start, span}
+use lib.ListN.{length, getD}
+use Rattle.cells.specs.Cell.{start}
 use Rattle.records.specs.Record.{Ordered}
-use Rattle.cells.specs.Answer.{deepest}
 use Rattle.cells.proofs.Cells.{within}
 use Rattle.cells.proofs.Power.{pow8-pos}
 use Rattle.cells.proofs.Words.{pow8-small}
 use Rattle.records.proofs.Search.{proper-at}
-use Rattle.shifts.specs.Slot.{Of, slotAt}
+use Rattle.shifts.specs.Slot.{Of}
 use Rattle.records.specs.Inner.{Starts}
 use Rattle.shifts.specs.declared.inner.slots.Slot.{Slot}
 use Rattle.shifts.proofs.Arrays.{Filled, filled-none, filled-more}

@@ -1,12 +1,11 @@
 -- `shifts::inner::slots::pick` meets its contract. The loop's invariant: the slots before q are picked. Assumes nothing.
-use mathlib.Core.Path.{_≡_, refl, sym, ap, _∙_, subst}
+use mathlib.Core.Path.{_≡_, refl}
 use mathlib.Core.List.{List}
-use Prim.Native.Nat.{ℕ, suc, _+_, _-_, _*_, _≤_, _<_}
+use Prim.Native.Nat.{ℕ, _-_}
 use native.Mathlib.Omega.{arith}
 use borrow.Author.Needs.{needs}
-use lib.ListN.{length, getD, set}
 use Rattle.shifts.specs.Labels.{sumLabel, carryLabel}
-use Rattle.shifts.specs.Slot.{slotAt, partAt}
+use Rattle.shifts.specs.Slot.{partAt}
 use Rattle.shifts.specs.declared.inner.slots.Slot.{Slot}
 use Rattle.shifts.proofs.Arrays.{Filled, filled-none, filled-more}
 use Rattle.shifts.proofs.inner.slots.pick.Statement.{statement}

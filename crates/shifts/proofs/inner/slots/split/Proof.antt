@@ -1,10 +1,9 @@
 -- `shifts::inner::slots::split` meets its contract. The loop's invariant: the slots before q are split. Assumes nothing.
-use mathlib.Core.Path.{_≡_, refl, sym, ap, _∙_, subst}
+use mathlib.Core.Path.{refl}
 use mathlib.Core.List.{List, []}
-use Prim.Native.Nat.{ℕ, suc, _+_, _-_, _*_, _/_, _^_, _≤_, _<_}
+use Prim.Native.Nat.{ℕ, suc, _+_, _-_, _*_, _<_}
 use native.Mathlib.Omega.{arith}
 use borrow.Author.Needs.{needs}
-use lib.ListN.{length, getD, set}
 use Rattle.shifts.specs.Labels.{Uses}
 use Rattle.shifts.specs.Slot.{Of, slotAt}
 use Rattle.shifts.specs.declared.inner.slots.Slot.{Slot}

@@ -1,5 +1,4 @@
 -- `shifts::inner::slots::split_needed` meets its contract. Assumes nothing.
-use mathlib.Core.Path.{_≡_}
 use borrow.Author.Needs.{needs}
 use Rattle.shifts.proofs.inner.slots.split_needed.Statement.{statement}
 use Rattle.shifts.proofs.inner.slots.split_needed.Tie as tie

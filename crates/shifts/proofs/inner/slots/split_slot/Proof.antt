@@ -1,13 +1,8 @@
 -- `shifts::inner::slots::split_slot` meets its contract: an empty slot, a leaf that has all of the cell, leaves that are smaller. Assumes nothing.
 use mathlib.Core.Path.{_≡_, sym, ap, _∙_, subst}
-use mathlib.Core.List.{List}
-use Prim.Native.Nat.{ℕ, suc, _+_, _*_, _/_, _^_, _<_}
+use Prim.Native.Nat.{ℕ, suc, _+_, _*_, _^_}
 use native.Mathlib.Numerals.{add-one}
-use native.Mathlib.Omega.{arith}
-use lib.ListN.{getD}
-use Rattle.cells.specs.Cell.{start}
 use Rattle.shifts.specs.Slot.{Of, SlotTint, slotAt}
-use Rattle.shifts.specs.declared.inner.slots.Slot.{Slot}
 use Rattle.shifts.proofs.Parts.{whole-white, whole-black, part-place, eight}
 use borrow.Author.Needs.{needs}
 use Rattle.shifts.proofs.inner.slots.split_slot.Statement.{statement}

@@ -1,0 +1,81 @@
+-- `moves::move_metres` meets its contract: what the metres become decides, then the move by whole voxels. Assumes nothing.
+use mathlib.Core.Path.{_≡_, sym, subst}
+use mathlib.Core.List.{List}
+use Prim.Native.Nat.{ℕ}
+use borrow.Author.Needs.{needs}
+use lib.IntN.{ℤ}
+use mir.Syntax.{w32}
+use mir.Val.{toZ, ofZ}
+use mir.Facts.{toZ-ofZ}
+use Rattle.cells.specs.Answer.{Decided, keeping}
+use Rattle.cells.specs.declared.Answer.{Answer}
+use Rattle.metres.specs.Metres.{moveTests}
+use Rattle.metres.specs.Taken.{TakenOf}
+use Rattle.metres.specs.declared.Move.the-variants as the-move
+use Rattle.metres.specs.declared.inner.Taken.the-variants.{Voxels, Bad}
+use Rattle.metres.proofs.TakenLaws.{bad-decides, whole-decides}
+use Rattle.moves.specs.Moves.{ShiftOf, ByVoxels}
+use Rattle.moves.proofs.move_metres.Statement.{statement}
+use Rattle.moves.proofs.move_metres.Tie as tie
+
+in-voxels-requires : tie.Need-in-voxels-requires
+in-voxels-requires c κs = search needs
+
+enum-known-taken : tie.Need-enum-known-taken
+enum-known-taken c = search needs
+
+cast-refusal : tie.Need-cast-refusal
+cast-refusal c = search needs
+
+refusal-requires : tie.Need-refusal-requires
+refusal-requires c κs = search needs
+
+enum-known-taken-2 : tie.Need-enum-known-taken-2
+enum-known-taken-2 c = search needs
+
+move-whole-requires : tie.Need-move-whole-requires
+move-whole-requires c κs = search needs
+
+returns : tie.Need-returns
+returns c =
+    let t = c .before .before in
+    let v = t .before .before in
+    let a = v .before .before .before .args in
+    let p = t .taken .given .0 .0 in
+    let P : Answer × List ℕ → Type 0 = ByVoxels (a .depth) (a .list .now) (the-move.Metres (a .d)) (a .out .now) in
+    let told : TakenOf (a .d) (Bad p) = subst (TakenOf (a .d)) (t .taken .given .1) (v .in-voxels .ensures) in
+    subst (λ (r : Answer). Decided (keeping (a .out .now)) (moveTests (the-move.Metres (a .d))) P (r, a .out .now)) (sym (c .refusal .ensures))
+    (bad-decides (keeping (a .out .now)) P (a .d) p told)
+
+same-length : tie.Need-same-length
+same-length c = search needs
+
+returns-2 : tie.Need-returns-2
+returns-2 c =
+    let w = c .before .before .move-whole in
+    let t = c .before .before .before .before .before in
+    let f = c .before .before .before .before .known-told2 .given in
+    let v = t .before .before in
+    let a = v .before .before .before .args in
+    let g = t .taken2 .given .0 in
+    let x : toZ w32 (ofZ w32 (g .0)) ≡ g .0 = toZ-ofZ {w = w32} {z = g .0} (record { sfits = f .0 .1 }) in
+    let y : toZ w32 (ofZ w32 (g .1 .0)) ≡ g .1 .0 = toZ-ofZ {w = w32} {z = g .1 .0} (record { sfits = f .1 .0 .1 }) in
+    let z : toZ w32 (ofZ w32 (g .1 .1 .0)) ≡ g .1 .1 .0 = toZ-ofZ {w = w32} {z = g .1 .1 .0} (record { sfits = f .1 .1 .0 .1 }) in
+    let told : TakenOf (a .d) (Voxels (g .0) (g .1 .0) (g .1 .1 .0)) = subst (TakenOf (a .d)) (t .taken2 .given .1) (v .in-voxels .ensures) in
+    let moved : ShiftOf (a .depth) (a .list .now) (g .0) (g .1 .0) (g .1 .1 .0) (a .out .now) (w .result, w .last .1 .1 .1 .1 .1 .0) = rw (x, y, z) at (w .ensures) in
+    whole-decides (keeping (a .out .now)) (ByVoxels (a .depth) (a .list .now) (the-move.Metres (a .d)) (a .out .now)) (a .d) (g .0) (g .1 .0) (g .1 .1 .0) (w .result, w .last .1 .1 .1 .1 .1 .0) told
+    (λ becomes. (g .0, g .1 .0, g .1 .1 .0, becomes, moved))
+
+pub move-metres-spec : {M : Type 1} → statement M
+move-metres-spec =
+    tie.close
+    (tie.spec
+    in-voxels-requires
+    enum-known-taken
+    cast-refusal
+    refusal-requires
+    enum-known-taken-2
+    move-whole-requires
+    returns
+    same-length
+    returns-2)
