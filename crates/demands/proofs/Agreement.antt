@@ -1,0 +1,78 @@
+-- Tests that two answers with the lists written agree, that a list is good, and how the room of a buffer decides. Assumes nothing.
+use mathlib.Core.Path.{_≡_, refl, ap, ap₂, _∙_, subst}
+use mathlib.Core.Bool.{Bool, true, false, _&&_}
+use mathlib.Core.List.{List, [], _∷_, _++_}
+use Prim.Native.Nat.{ℕ, _≤_}
+use lib.Dec.{leb, eqb}
+use lib.ListN.{length, drop}
+use borrow.Author.Tests.{leb-true, leb-false, eqb-true}
+use Rattle.cells.specs.Answer.{answer, given, deepest}
+use Rattle.cells.specs.declared.Answer.{Answer}
+use Rattle.cells.proofs.Bools.{both-true, clash}
+use Rattle.records.specs.Record.{Good, ListOf}
+use Rattle.records.specs.Fault.{firstFault}
+use Rattle.records.proofs.First.{faultless-iff-good}
+use Rattle.emit.proofs.Answers.{Told, told-crowded, told-written}
+use Rattle.demands.proofs.Outcomes.{Left}
+
+-- ---- equal lists and equal answers, as tests
+
+abbrev pub same : List ℕ → List ℕ → Bool
+same [] [] = true
+same [] (y ∷ ys) = false
+same (x ∷ xs) [] = false
+same (x ∷ xs) (y ∷ ys) = eqb x y && same xs ys
+
+same-is : (l m : List ℕ) → same l m ≡ true → l ≡ m
+same-is [] [] e = refl
+same-is [] (y ∷ ys) e = absurd (clash e refl)
+same-is (x ∷ xs) [] e = absurd (clash e refl)
+same-is (x ∷ xs) (y ∷ ys) e = let (p, q) = both-true (eqb x y) (same xs ys) e in ap₂ (λ (a : ℕ) (l : List ℕ). a ∷ l) (eqb-true x y p) (same-is xs ys q)
+
+abbrev pub sameAnswer : Answer → Answer → Bool
+sameAnswer a b = eqb (a .number) (b .number) && (eqb (a .place) (b .place) && eqb (a .list) (b .list))
+
+pub same-answer : (a b : Answer) → sameAnswer a b ≡ true → a ≡ b
+same-answer a b e =
+    let (p, f) = both-true (eqb (a .number) (b .number)) (eqb (a .place) (b .place) && eqb (a .list) (b .list)) e in
+    let (q, r) = both-true (eqb (a .place) (b .place)) (eqb (a .list) (b .list)) f in
+    ap (λ (n : ℕ). answer n (a .place) (a .list)) (eqb-true _ _ p) ∙ ap₂ (answer (b .number)) (eqb-true _ _ q) (eqb-true _ _ r)
+
+-- what a call leaves, with the list that it wrote in the buffer's place
+abbrev pub agrees : Left → Answer → List ℕ → Bool
+agrees t r w = sameAnswer (t .0) r && same (t .1) w
+
+pub agrees-is : (t : Left) (r : Answer) (w : List ℕ) → agrees t r w ≡ true → t ≡ (r, w)
+agrees-is t r w e =
+    let (p, q) = both-true (sameAnswer (t .0) r) (same (t .1) w) e in
+    ap₂ (λ (a : Answer) (l : List ℕ). (a, l)) (same-answer (t .0) r p) (same-is (t .1) w q)
+
+-- what is left of the buffer o where a list is written at its front
+abbrev pub leaving : List ℕ → Left → Left
+leaving o t = (t .0, t .1 ++ drop (length (t .1)) o)
+
+-- ---- good lists
+
+abbrev pub sound : ℕ → List ℕ → Bool
+sound D l = leb D deepest && eqb (firstFault D l) (length l)
+
+pub sound-is : (D : ℕ) (l : List ℕ) → sound D l ≡ true → (D ≤ deepest) × Good D l
+sound-is D l e =
+    let (p, q) = both-true (leb D deepest) (eqb (firstFault D l) (length l)) e in
+    (leb-true D deepest p, faultless-iff-good D l .0 (eqb-true _ _ q))
+
+-- ---- a list to be written to a buffer of n places
+
+abbrev pub inRoom : Bool → List ℕ → Left
+inRoom true l = (given (length l), l)
+inRoom false l = (answer 8 (length l) 0, [])
+
+abbrev pub roomed : ℕ → List ℕ → Left
+roomed n l = inRoom (leb (length l) n) l
+
+pub told-roomed : (D : ℕ) (Q : ℕ → Type 0) (o l : List ℕ) → ListOf D Q l → (r : Answer) (w : List ℕ) → agrees (roomed (length o) l) r w ≡ true → Told D Q o (leaving o (r, w))
+told-roomed D Q o l x r w e = subst (λ (t : Left). Told D Q o (leaving o t)) (agrees-is (roomed (length o) l) r w e) (told (leb (length l) (length o)) refl)
+  where
+    told : (t : Bool) → leb (length l) (length o) ≡ t → Told D Q o (leaving o (inRoom t l))
+    told true h = told-written D Q o l x (leb-true _ _ h)
+    told false h = told-crowded D Q o l x (leb-false _ _ h)

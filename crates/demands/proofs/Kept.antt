@@ -1,0 +1,50 @@
+-- Demand 1: "A rejected call changes no byte it was lent." And document 01: "Buffers beyond what is written keep their content." Of each call that is lent a
+-- buffer. Assumes nothing.
+use mathlib.Core.Path.{_≡_, refl, sym, ap, ap₂, _∙_}
+use mathlib.Core.List.{List, [], _∷_}
+use Prim.Native.Nat.{ℕ}
+use lib.IntN.{ℤ}
+use lib.ListN.{length, drop}
+use lib.Seq.{drop-append-seam}
+use Rattle.cells.specs.Answer.{keeping, TooDeep}
+use Rattle.cells.specs.declared.Answer.{Answer}
+use Rattle.cells.proofs.Decisions.{decided-all}
+use Rattle.records.specs.Fault.{Faulty}
+use Rattle.emit.specs.Writing.{Crowded, Written}
+use Rattle.sets.specs.declared.Op.{Op}
+use Rattle.sets.specs.Sets.{Taken, SetOf}
+use Rattle.metres.specs.Metres.{moveTests}
+use Rattle.metres.specs.declared.Move.{Move}
+use Rattle.moves.specs.Moves.{FromBlack, Leaving, ShiftOf, MoveOf}
+use Rattle.demands.specs.Laws.{Succeeds}
+use Rattle.demands.proofs.Outcomes.{Left}
+
+-- what a call leaves of the buffer o: all of it where it is refused, and what lies beyond its place where it succeeds
+pub record Kept (o : List ℕ) (t : Left) : Type 0 where
+  pub refused : (Succeeds (t .0) → ⊥) → t .1 ≡ o
+  pub beyond : Succeeds (t .0) → drop (t .0 .place) (t .1) ≡ drop (t .0 .place) o
+
+kept-refused : (o : List ℕ) (a : Answer) → Kept o (keeping o a)
+kept-refused o a = record { refused = λ _. refl; beyond = λ _. refl }
+
+kept-written : (D : ℕ) (Q : ℕ → Type 0) (o : List ℕ) (t : Left) → Written D Q o t → Kept o t
+kept-written D Q o t (l, x, e, f) = record {
+  refused = λ n. absurd (n (ap (λ (a : Answer). a .number) e));
+  beyond = λ _.
+      let p : t .0 .place ≡ length l = ap (λ (a : Answer). a .place) e in
+      ap₂ drop p f ∙ drop-append-seam l (drop (length l) o) ∙ ap (λ (n : ℕ). drop n o) (sym p);
+}
+
+pub set-keeps : (op : Op) (D : ℕ) (a b o o' : List ℕ) (r : Answer) → SetOf op D a b o r o' → Kept o (r, o')
+set-keeps op D a b o o' r d =
+    let Q : ℕ → Type 0 = Taken op D a b in
+    decided-all (keeping o) (TooDeep D ∷ Faulty D a 1 ∷ Faulty D b 2 ∷ Crowded D Q o ∷ []) (Written D Q o) (Kept o) (r, o') (kept-refused o) (kept-written D Q o (r, o')) d
+
+shift-keeps : (D : ℕ) (l : List ℕ) (dx dy dz : ℤ) (o : List ℕ) (t : Left) → ShiftOf D l dx dy dz o t → Kept o t
+shift-keeps D l dx dy dz o t d =
+    let Q : ℕ → Type 0 = FromBlack D dx dy dz l in
+    decided-all (keeping o) (Leaving D dx dy dz l ∷ Crowded D Q o ∷ []) (Written D Q o) (Kept o) t (kept-refused o) (kept-written D Q o t) d
+
+pub move-keeps : (D : ℕ) (l : List ℕ) (m : Move) (o o' : List ℕ) (r : Answer) → MoveOf D l m o r o' → Kept o (r, o')
+move-keeps D l m o o' r d =
+    decided-all (keeping o) (TooDeep D ∷ Faulty D l 1 ∷ moveTests m) _ (Kept o) (r, o') (kept-refused o) (λ (dx, dy, dz, _, t). shift-keeps D l dx dy dz o (r, o') t) d

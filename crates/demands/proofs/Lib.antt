@@ -1,0 +1,19 @@
+-- The order's demands as theorems over the definitions that are the calls' contracts.
+-- what an answer tells of a call's inputs and of what it wrote
+pub mod Outcomes
+-- demand 1: what a refused call is lent stays as it was
+pub mod Kept
+-- demand 3: moves one after the other, moves and sets, volumes; buffers with room
+pub mod Moves
+pub mod Distributes
+pub mod Volumes
+pub mod Room
+-- calls worked out, and the checked examples of document 01
+pub mod Agreement
+pub mod WorkedMoves
+pub mod Worked
+pub mod Starred
+-- how tight the statements are: no second answer, no impostor
+pub mod Unique
+pub mod Named
+pub mod Impostors

@@ -1,0 +1,73 @@
+-- For every input the statement of a public call determines the answer and the later content of lent memory, refusals too: two answers that fit, with what
+-- stands in the lent buffer afterwards, are equal. A line for each public call. Assumes nothing.
+use mathlib.Core.Path.{ap₂}
+use mathlib.Core.List.{List}
+use Prim.Native.Nat.{ℕ}
+use lib.IntN.{ℤ}
+use Rattle.cells.specs.Corners.{PlaceOf, CodeOf}
+use Rattle.cells.specs.Neighbour.{NeighbourOf}
+use Rattle.cells.specs.declared.Answer.{Answer}
+use Rattle.cells.proofs.Decisions.{One}
+use Rattle.cells.proofs.CornerLaws.{one-place, one-code}
+use Rattle.cells.proofs.NeighbourLaws.{one-neighbour-of}
+use Rattle.records.specs.Calls.{CheckOf, LookupOf, VolumeOf}
+use Rattle.records.specs.Met.{MetOf, MetAtOf}
+use Rattle.records.proofs.CallLaws.{one-check, one-lookup, one-volume}
+use Rattle.records.proofs.MetLaws.{one-met, one-met-at}
+use Rattle.sets.specs.declared.Op.the-variants.{Join, Meet, Less}
+use Rattle.sets.specs.Sets.{SetOf}
+use Rattle.sets.proofs.SetLaws.{one-set}
+use Rattle.metres.specs.declared.Move.{Move}
+use Rattle.moves.specs.Moves.{MoveOf}
+use Rattle.moves.proofs.MoveLaws.{one-move}
+
+-- an answer and a buffer afterwards, of which one fits at most
+abbrev pub OnlyOne : (Answer → List ℕ → Type 0) → Type 0
+OnlyOne P = One (λ (t : Answer × List ℕ). P (t .0) (t .1))
+
+-- ---- cells
+
+pub only-place : (D c : ℕ) → One (PlaceOf D c)
+only-place = one-place
+
+pub only-code : (D x y z k : ℕ) → One (CodeOf D x y z k)
+only-code = one-code
+
+pub only-neighbour : (D c : ℕ) (dx dy dz : ℤ) → One (NeighbourOf D c dx dy dz)
+only-neighbour = one-neighbour-of
+
+-- ---- records
+
+pub only-check : (D : ℕ) (l : List ℕ) → One (CheckOf D l)
+only-check = one-check
+
+pub only-lookup : (D : ℕ) (l : List ℕ) (x y z : ℕ) → One (LookupOf D l x y z)
+only-lookup = one-lookup
+
+pub only-volume : (D : ℕ) (l : List ℕ) → One (VolumeOf D l)
+only-volume = one-volume
+
+-- the returned part and where it begins in memory
+pub only-met : (D : ℕ) (l : List ℕ) (p : ℕ × ℕ) (c : ℕ) (dx dy dz : ℤ) → One (λ (t : List ℕ × (ℕ × ℕ)). MetOf D l p c dx dy dz (t .0) (t .1))
+only-met D l p c dx dy dz t u h k =
+    let (same, begins) = one-met D l c dx dy dz p (t .0) (u .0) (t .1) (u .1) h k in
+    ap₂ (λ (r : List ℕ) (q : ℕ × ℕ). (r, q)) same begins
+
+pub only-met-at : (D : ℕ) (l : List ℕ) (c : ℕ) (dx dy dz : ℤ) → One (MetAtOf D l c dx dy dz)
+only-met-at = one-met-at
+
+-- ---- sets
+
+pub only-join : (D : ℕ) (a b o : List ℕ) → OnlyOne (SetOf Join D a b o)
+only-join = one-set Join
+
+pub only-meet : (D : ℕ) (a b o : List ℕ) → OnlyOne (SetOf Meet D a b o)
+only-meet = one-set Meet
+
+pub only-less : (D : ℕ) (a b o : List ℕ) → OnlyOne (SetOf Less D a b o)
+only-less = one-set Less
+
+-- ---- moves
+
+pub only-move : (D : ℕ) (l : List ℕ) (m : Move) (o : List ℕ) → OnlyOne (MoveOf D l m o)
+only-move = one-move

@@ -1,0 +1,29 @@
+-- The calls that document 01 wants told apart from the library's ("How tight the statements are") and that take a definition of their own. Definitions only.
+use mathlib.Core.Path.{_≡_}
+use mathlib.Core.Bool.{true}
+use mathlib.Core.List.{[], _∷_}
+use Prim.Native.Nat.{ℕ}
+use lib.IntN.{pos}
+use Rattle.cells.specs.Answer.{Decided, keeping, TooDeep}
+use Rattle.records.specs.Record.{black}
+use Rattle.records.specs.Fault.{Faulty}
+use Rattle.emit.specs.Writing.{Crowded, Written}
+use Rattle.demands.specs.Laws.{Mover, Combiner, move}
+
+-- A call with the tests of join, meet and less, that gives the good list of the voxels that T takes, from whether they are black in the first list and in the
+-- second. `SetOf op` is `Combines (Takes op)`.
+abbrev pub Combines : (Type 0 → Type 0 → Type 0) → Combiner
+Combines T D a b o r o' =
+    let Q : ℕ → Type 0 = λ v. T (black D a v ≡ true) (black D b v ≡ true) in
+    Decided (keeping o) (TooDeep D ∷ Faulty D a 1 ∷ Faulty D b 2 ∷ Crowded D Q o ∷ []) (Written D Q o) (r, o')
+
+-- a join that is its first list, and an intersection that is its second
+abbrev pub firstList : Combiner
+firstList = Combines (λ A B. A)
+
+abbrev pub secondList : Combiner
+secondList = Combines (λ A B. B)
+
+-- a move that goes along x and skips y and z
+abbrev pub alongX : Mover
+alongX D l dx dy dz = move D l dx (pos 0) (pos 0)

@@ -1,0 +1,6 @@
+-- what demand 3 asks
+pub mod Laws
+-- calls that are none of the library's
+pub mod Impostors
+-- the examples of document 01
+pub mod Examples
