@@ -1,7 +1,10 @@
 // The calls for the C controller in the cab: on numbers and bytes, each returning number x 2^32 + place.
+use blocks::inspect::check_blocks;
+use blocks::inspect::stored_volume;
 use cells::Answer;
 use cells::neighbours::neighbour;
 ghost use mathlib.Core.Path.{_≡_};
+ghost use Rattle.blocks.specs.Calls.{BlockCheckOf, StoredVolumeOf};
 ghost use Rattle.cells.specs.Neighbour.{NeighbourOf};
 ghost use Rattle.cab.specs.Packed.{packed, Packed};
 
@@ -23,4 +26,20 @@ pub extern "C" fn cab_neighbour(depth: u32, code: u32, dx: i32, dy: i32, dz: i32
     ensures { λ r. ⌜ Packed (NeighbourOf depth code dx dy dz) r ⌝ }
 {
     pack(neighbour(depth, code, dx, dy, dz))
+}
+
+// The block check.
+#[no_mangle]
+pub extern "C" fn cab_check_blocks(bytes: &[u8]) -> u64
+    ensures { λ r. ⌜ Packed (BlockCheckOf (now (bytes .entry))) r ⌝ }
+{
+    pack(check_blocks(bytes))
+}
+
+// The volume of a stored file.
+#[no_mangle]
+pub extern "C" fn cab_stored_volume(bytes: &[u8]) -> u64
+    ensures { λ r. ⌜ Packed (StoredVolumeOf (now (bytes .entry))) r ⌝ }
+{
+    pack(stored_volume(bytes))
 }

@@ -1,10 +1,10 @@
 -- A leaf's test against its voxels: where it holds each voxel of the leaf, displaced, stays in the root, and where it fails the leaf's first voxel or its last
 -- leaves. So no leaf leaves just where each black voxel stays. An axis is a number a below 3; its bit in a label is 2 ^ a. Assumes nothing.
-use mathlib.Core.Path.{_≡_, refl, sym, ap, _∙_}
+use mathlib.Core.Path.{_≡_, refl, ap, _∙_}
 use mathlib.Core.Logic.{_⊎_, inl, inr, ⊎-elim, _↔_}
 use mathlib.Core.Bool.{Bool, true, false, _&&_}
 use mathlib.Core.List.{List}
-use Prim.Native.Nat.{ℕ, zero, suc, _+_, _-_, _*_, _/_, _%_, _^_, _<_, _≤_}
+use Prim.Native.Nat.{ℕ, zero, suc, _+_, _-_, _*_, _/_, _^_, _<_, _≤_}
 use native.Mathlib.Nat.{le-refl, div-add-mod', mod-lt}
 use native.Mathlib.Omega.{arith}
 use lib.Dec.{leb}
@@ -13,7 +13,7 @@ use lib.ListN.{length, getD}
 use borrow.Author.Tests.{leb-true, leb-false}
 use Rattle.cells.specs.Cell.{level, proper, index, side, start, span, holds}
 use Rattle.cells.specs.Place.{along, number, corner, Displaced, Came}
-use Rattle.cells.proofs.Bools.{both-true, clash}
+use Rattle.cells.proofs.Bools.{both-true}
 use Rattle.cells.proofs.Integers.{above, below}
 use Rattle.cells.proofs.Power.{le-or-lt}
 use Rattle.cells.proofs.Cells.{span-pos}

@@ -8,9 +8,8 @@ use Prim.Native.Nat.{ℕ, zero, suc, _+_, _-_, _*_, _/_, _%_, _^_, _<_, _≤_}
 use native.Mathlib.Nat.{add-mul, one-mul, div-add-mod', mod-lt, mod-eq-of-lt, add-mul-mod-self-right}
 use native.Mathlib.Omega.{arith}
 use lib.IntN.{ℤ}
-use Rattle.cells.specs.Place.{along, number, Came}
+use Rattle.cells.specs.Place.{along, Came}
 use Rattle.cells.proofs.Bools.{refuted, clash}
-use Rattle.cells.proofs.Integers.{above, below}
 use Rattle.cells.proofs.Power.{le-or-lt, pow2-pos}
 use Rattle.cells.proofs.Places.{pick, along-lt, along-number, same-voxel}
 use Rattle.cells.proofs.Displacements.{displaced-parts, came-along}
@@ -23,6 +22,14 @@ use Rattle.moves.specs.Moves.{FromBlack}
 use Rattle.moves.specs.Inner.{turned, back}
 use Rattle.moves.specs.declared.inner.Parted.{Parted}
 use Rattle.moves.proofs.Acceptance.{AllParts, parts-above, Accepted}
+
+-- a black voxel of an ordered list lies in the root
+pub black-lt : (D : ℕ) (l : List ℕ) → Ordered D 0 l → (u : ℕ) → black D l u ≡ true → u < 8 ^ D
+black-lt D l o u b = go (le-or-lt (8 ^ D) u)
+  where
+    go : (8 ^ D ≤ u) ⊎ (u < 8 ^ D) → u < 8 ^ D
+    go (inl k) = absurd (clash b (black-beyond D 0 l o u k))
+    go (inr k) = k
 
 -- ---- numbers that differ by a multiple of p
 
@@ -119,21 +126,10 @@ module _ (D : ℕ) (dx dy dz : ℤ) (x y z : Parted) (P : AllParts dx dy dz x y 
           (shift D w 0 v, b, subst (Came D dx dy dz (shift D w 0 v)) (source-came v t h came) came)
 
       back-again : FromBlack D dx dy dz l v → shifted D l w v ≡ true
-      back-again (u, b, came) = shifted-in D l w v h ∙ ap (black D l) (came-source v u (in-root u b (le-or-lt (8 ^ D) u)) came) ∙ b
-        where
-          in-root : (u : ℕ) → black D l u ≡ true → (8 ^ D ≤ u) ⊎ (u < 8 ^ D) → u < 8 ^ D
-          in-root u b (inl k) = absurd (clash b (black-beyond D 0 l o u k))
-          in-root u b (inr k) = k
+      back-again (u, b, came) = shifted-in D l w v h ∙ ap (black D l) (came-source v u (black-lt D l o u b) came) ∙ b
 
 -- ---- a voxel whose source lies outside the root is white in the result
 
 pub outside-white : (D : ℕ) (dx dy dz : ℤ) (l m : List ℕ) → Ordered D 0 l → ListOf D (FromBlack D dx dy dz l) m → (v : ℕ) → v < 8 ^ D
     → ((u : ℕ) → u < 8 ^ D → Came D dx dy dz u v → ⊥) → black D m v ≡ false
-outside-white D dx dy dz l m o x v h none = refuted (black D m v) (λ e. go (x .exactly v h .0 e))
-  where
-    go : FromBlack D dx dy dz l v → ⊥
-    go (u, b, came) = inside (le-or-lt (8 ^ D) u)
-      where
-        inside : (8 ^ D ≤ u) ⊎ (u < 8 ^ D) → ⊥
-        inside (inl k) = clash b (black-beyond D 0 l o u k)
-        inside (inr k) = none u k came
+outside-white D dx dy dz l m o x v h none = refuted (black D m v) (λ e. let (u, b, came) = x .exactly v h .0 e in none u (black-lt D l o u b) came)

@@ -1,10 +1,9 @@
 -- `moves::move_whole` meets its contract: acceptance, a pass that only counts, and one that writes. Assumes nothing.
-use mathlib.Core.Path.{_≡_, refl, sym, ap, _∙_, subst}
+use mathlib.Core.Path.{_≡_, refl, sym, ap, subst}
 use mathlib.Core.Logic.{inl, inr, _↔_}
 use mathlib.Core.List.{List}
 use mathlib.Core.Bool.{true}
 use Prim.Native.Nat.{ℕ, _^_, _<_}
-use native.Mathlib.Omega.{arith}
 use borrow.Author.Needs.{needs}
 use lib.IntN.{ℤ}
 use mir.Syntax.{w32}
@@ -13,7 +12,7 @@ use Rattle.cells.specs.Answer.{keeping}
 use Rattle.cells.specs.declared.Answer.{Answer}
 use Rattle.emit.proofs.Answers.{Told, crowded, written}
 use Rattle.shifts.specs.Shift.{shifted}
-use Rattle.moves.specs.Moves.{Leaving, FromBlack, ShiftOf}
+use Rattle.moves.specs.Moves.{FromBlack, ShiftOf}
 use Rattle.moves.specs.Inner.{Parts, back}
 use Rattle.moves.proofs.Acceptance.{AllParts, all-parts, Accepted, accepted-stays, first-leaves, all-stay}
 use Rattle.moves.proofs.Back.{shifted-exactly}

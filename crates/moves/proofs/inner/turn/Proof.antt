@@ -1,5 +1,5 @@
 -- `moves::inner::turn` meets its contract: the side is not 0, and what is added is less than two sides. Assumes nothing.
-use Prim.Native.Nat.{_%_, _^_, _<_}
+use Prim.Native.Nat.{_%_, _<_}
 use native.Mathlib.Nat.{mod-lt}
 use native.Mathlib.Omega.{arith}
 use borrow.Author.Needs.{needs}

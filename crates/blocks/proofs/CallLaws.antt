@@ -1,0 +1,93 @@
+-- The laws of the calls on stored files: what a call that begins with a survey takes from it, and no second answer fits. Assumes nothing.
+use mathlib.Core.Path.{_≡_, refl, sym, ap, _∙_}
+use mathlib.Core.Bool.{Bool, true, false}
+use mathlib.Core.List.{List, [], _∷_}
+use mathlib.Core.Logic.{inl, inr}
+use Prim.Native.Nat.{ℕ, _*_, _≤_, _<_}
+use native.Mathlib.Omega.{arith}
+use lib.ListN.{length}
+use Rattle.cells.specs.Answer.{given, Test, Decided, alone, keeping, TooDeep}
+use Rattle.cells.specs.declared.Answer.{Answer}
+use Rattle.cells.proofs.Decisions.{One, one-refuses, one-decided, Numbered, refuses-numbered, decided-first, decided-next, decided-holds}
+use Rattle.records.specs.Record.{Good}
+use Rattle.records.specs.Fault.{firstFault, Faulty}
+use Rattle.records.proofs.First.{at-first-fault, faultless-iff-good, first-fault-le}
+use Rattle.blocks.specs.Block.{sound, depthOf, leaves, codes}
+use Rattle.blocks.specs.File.{blocksOf}
+use Rattle.blocks.specs.Calls.{Unsound, TooShort, BlockCheckOf, StoredVolumeOf, unread, ReadOf, WriteOf}
+use Rattle.blocks.specs.declared.Reading.{Reading}
+
+-- ---- past the tests 9 and 2 to 4
+
+-- what the answer `given n` of these tests says
+pub record Held (b : List ℕ) (n : ℕ) : Type 0 where
+  pub is-sound : sound b ≡ true
+  pub good : Good (depthOf b) (codes b)
+  pub is-leaves : n ≡ leaves b
+
+pub not-unsound : (t : Bool) → (t ≡ false → ⊥) → t ≡ true
+not-unsound true h = refl
+not-unsound false h = absurd (h refl)
+
+pub not-faulty : (D : ℕ) (l : List ℕ) (k : ℕ) → ((a : Answer) → Faulty D l k a → ⊥) → Good D l
+not-faulty D l k clean =
+    let none : firstFault D l < length l → ⊥ = λ h. clean _ (h, refl) in
+    faultless-iff-good D l .0 (omega (arith, first-fault-le D l))
+
+pub faulty-numbered : (D : ℕ) (l : List ℕ) (k : ℕ) (a : Answer) → Faulty D l k a → a .number ≡ 0 → ⊥
+faulty-numbered D l k a (h, e) z = at-first-fault D l h (ap (λ (x : Answer). x .number) (sym e) ∙ z)
+
+-- the file b is judged, and its answer is r
+abbrev pub JudgedOf : List ℕ → Answer → Type 0
+JudgedOf b = Decided alone (Unsound b ∷ Faulty (depthOf b) (codes b) 1 ∷ []) (λ r. r ≡ given (leaves b))
+
+module _ (b : List ℕ) (r : Answer) (d : JudgedOf b r) where
+  numbered : Numbered (Unsound b ∷ Faulty (depthOf b) (codes b) 1 ∷ [])
+  numbered = (refuses-numbered (λ z. omega arith), (faulty-numbered (depthOf b) (codes b) 1, tt))
+
+  -- a refusal is passed on
+  pub survey-first : {S : Type 0} (refuse : Answer → S) (Gs : List Test) (Q : S → Type 0) → (r .number ≡ 0 → ⊥) → Decided refuse (Unsound b ∷ Faulty (depthOf b) (codes b) 1 ∷ Gs) Q (refuse r)
+  survey-first refuse Gs Q some =
+      decided-first refuse (Unsound b ∷ Faulty (depthOf b) (codes b) 1 ∷ []) Gs (λ (a : Answer). a ≡ given (leaves b)) Q r (λ e. some (ap (λ (x : Answer). x .number) e)) d
+
+  -- else the other tests decide
+  pub survey-next : {S : Type 0} (refuse : Answer → S) (Gs : List Test) (Q : S → Type 0) (s : S) → r .number ≡ 0 → Decided refuse Gs Q s → Decided refuse (Unsound b ∷ Faulty (depthOf b) (codes b) 1 ∷ Gs) Q s
+  survey-next refuse Gs Q s z q =
+      decided-next refuse (Unsound b ∷ Faulty (depthOf b) (codes b) 1 ∷ []) Gs (λ (a : Answer). a ≡ given (leaves b)) Q r s numbered z (λ e. q) d
+
+  pub held : r .number ≡ 0 → Held b (r .place)
+  held z = go d
+    where
+      go : JudgedOf b r → Held b (r .place)
+      go (inl (a, t, e)) = absurd (numbered .0 a t (ap (λ (x : Answer). x .number) (sym e) ∙ z))
+      go (inr (unsound, inl (a, t, e))) = absurd (numbered .1 .0 a t (ap (λ (x : Answer). x .number) (sym e) ∙ z))
+      go (inr (unsound, inr (clean, e))) =
+          record {
+            is-sound = not-unsound (sound b) (λ h. unsound _ (h, refl));
+            good = not-faulty (depthOf b) (codes b) 1 clean;
+            is-leaves = ap (λ (x : Answer). x .place) e;
+          }
+
+  pub found : r .number ≡ 0 → r ≡ given (leaves b)
+  found z = decided-holds (Unsound b ∷ Faulty (depthOf b) (codes b) 1 ∷ []) (λ (a : Answer). a ≡ given (leaves b)) r numbered z d
+
+-- ---- no second answer
+
+-- only one thing equals a
+one-equal : {R : Type 0} {a : R} → One (λ (r : R). r ≡ a)
+one-equal r s e f = e ∙ sym f
+
+module _ (b : List ℕ) where
+  pub one-check-blocks : One (BlockCheckOf b)
+  one-check-blocks = one-decided alone (Unsound b ∷ []) _ (one-refuses, tt) one-equal
+
+  pub one-stored-volume : One (StoredVolumeOf b)
+  one-stored-volume = one-decided alone (Unsound b ∷ Faulty (depthOf b) (codes b) 1 ∷ []) _ (one-refuses, (one-refuses, tt)) one-equal
+
+  -- the answer with the depth, and the buffer afterwards
+  pub one-read : (o : List ℕ) → One (λ (t : Reading × List ℕ). ReadOf b o (t .0) (t .1))
+  one-read o = one-decided (unread o) (Unsound b ∷ Faulty (depthOf b) (codes b) 1 ∷ TooShort (leaves b) o ∷ []) _ (one-refuses, (one-refuses, (one-refuses, tt))) one-equal
+
+-- the answer, and the bytes afterwards
+pub one-write : (D : ℕ) (l o : List ℕ) → One (λ (t : Answer × List ℕ). WriteOf D l o (t .0) (t .1))
+one-write D l o = one-decided (keeping o) (TooDeep D ∷ Faulty D l 1 ∷ TooShort (512 * blocksOf (length l)) o ∷ []) _ (one-refuses, (one-refuses, (one-refuses, tt))) one-equal

@@ -1,0 +1,148 @@
+-- Any change within one word of a block is found, at that block. Assumes nothing.
+use mathlib.Core.Path.{_≡_, refl, sym, ap, _∙_}
+use mathlib.Core.Bool.{true, false, not}
+use mathlib.Core.List.{List}
+use mathlib.Core.Logic.{_⊎_, inl, inr, ⊎-elim}
+use Prim.Native.Nat.{ℕ, zero, suc, _+_, _-_, _*_, _/_, _^_, _≤_, _<_}
+use native.Mathlib.Nat.{eq-or-lt-of-le, le-of-suc-le-suc}
+use native.Mathlib.Omega.{arith}
+use lib.ListN.{length, getD}
+use lib.Seq.{ext-getD}
+use borrow.Author.Tests.{ne-eqb}
+use Rattle.cells.specs.Answer.{answer}
+use Rattle.cells.specs.declared.Answer.{Answer}
+use Rattle.cells.proofs.Power.{le-or-lt}
+use Rattle.records.proofs.First.{first-is}
+use Rattle.blocks.specs.declared.Sums.{Sums}
+use Rattle.blocks.specs.declared.Reading.{Reading}
+use Rattle.blocks.specs.Block.{word, check, soundBlock, blocks, whole, depthOf, firstUnsound, sound, wrongAt}
+use Rattle.blocks.specs.File.{byteOf}
+use Rattle.blocks.specs.Calls.{BlockCheckOf, StoredVolumeOf, unread, ReadOf}
+use Rattle.blocks.proofs.Sound.{Parts, wrong, parts, sound-whole, some-block, all-blocks}
+use Rattle.blocks.proofs.Words.{check-ext, check-small, carried, word-small, bytes-of-word}
+use Rattle.blocks.proofs.CallLaws.{one-check-blocks, one-stored-volume, one-read}
+
+-- ---- the sum A
+
+-- A tells two rows of words apart that differ in one word
+a-tells : (v v' : ℕ → ℕ) (w n : ℕ) → w < n → ((k : ℕ) → k < n → (k ≡ w → ⊥) → v' k ≡ v k) → v w < 2 ^ 32 → v' w < 2 ^ 32 → check v' n .a ≡ check v n .a → v' w ≡ v w
+unfolding check
+a-tells v v' w zero h f s s' e = absurd (omega arith)
+a-tells v v' w (suc n) h f s s' e = ⊎-elim (λ (x : w ≡ n). here x) (λ (x : w < n). a-tells v v' w n x (λ k l. f k (omega arith)) s s' (back x)) (eq-or-lt-of-le (le-of-suc-le-suc h))
+  where
+    here : w ≡ n → v' w ≡ v w
+    here x =
+        let p : check v' n .a ≡ check v n .a = ap (λ (y : Sums). y .a) (check-ext v v' n (λ k l. f k (omega arith) (λ z. omega arith))) in
+        omega (arith, ap v x, ap v' x, check-small v n)
+
+    back : w < n → check v' n .a ≡ check v n .a
+    back x = omega (arith, f n (omega arith) (λ z. omega arith), check-small v n, check-small v' n)
+
+-- ---- a changed word
+
+-- two files of bytes that differ, and only in word w of block i
+pub record Changed (b b' : List ℕ) (i w : ℕ) : Type 0 where
+  pub bytes : (k : ℕ) → getD b k 0 < 256
+  pub bytes' : (k : ℕ) → getD b' k 0 < 256
+  pub same-length : length b' ≡ length b
+  pub block : i < blocks b
+  pub in-block : w < 128
+  pub before : (k : ℕ) → k < 512 * i + 4 * w → getD b' k 0 ≡ getD b k 0
+  pub after : (k : ℕ) → 512 * i + 4 * w + 4 ≤ k → getD b' k 0 ≡ getD b k 0
+  pub differs : b' ≡ b → ⊥
+
+module _ (b b' : List ℕ) (i w : ℕ) (c : Changed b b' i w) where
+  -- the other words
+  other : (j v : ℕ) → v < 128 → (128 * j + v ≡ 128 * i + w → ⊥) → word b' j v ≡ word b j v
+  unfolding word
+  other j v h ne = ⊎-elim (λ (l : 128 * j + v ≤ 128 * i + w). low (omega (arith, ne))) (λ (l : 128 * i + w < 128 * j + v). high l) (le-or-lt (128 * j + v) (128 * i + w))
+    where
+      low : 128 * j + v < 128 * i + w → word b' j v ≡ word b j v
+      low l =
+          rw (c .before (512 * j + 4 * v) (omega arith), c .before (512 * j + 4 * v + 1) (omega arith), c .before (512 * j + 4 * v + 2) (omega arith), c .before (512 * j + 4 * v + 3) (omega arith))
+
+      high : 128 * i + w < 128 * j + v → word b' j v ≡ word b j v
+      high l =
+          rw (c .after (512 * j + 4 * v) (omega arith), c .after (512 * j + 4 * v + 1) (omega arith), c .after (512 * j + 4 * v + 2) (omega arith), c .after (512 * j + 4 * v + 3) (omega arith))
+
+  -- the word itself
+  new : word b' i w ≡ word b i w → ⊥
+  new e = c .differs (ext-getD 0 b' b (c .same-length) (λ k h. at k (le-or-lt (512 * i + 4 * w) k) (le-or-lt (512 * i + 4 * w + 4) k)))
+    where
+      at : (k : ℕ) → (512 * i + 4 * w ≤ k) ⊎ (k < 512 * i + 4 * w) → (512 * i + 4 * w + 4 ≤ k) ⊎ (k < 512 * i + 4 * w + 4) → getD b' k 0 ≡ getD b k 0
+      at k (inr x) y = c .before k x
+      at k (inl x) (inl y) = c .after k y
+      at k (inl x) (inr y) =
+          let z : 512 * i + 4 * w + (k - (512 * i + 4 * w)) ≡ k = omega arith in
+          ap (λ (n : ℕ). getD b' n 0) (sym z)
+          ∙ sym (bytes-of-word b' (c .bytes') i w (k - (512 * i + 4 * w)) (omega arith))
+          ∙ ap (λ (x : ℕ). byteOf x (k - (512 * i + 4 * w))) e
+          ∙ bytes-of-word b (c .bytes) i w (k - (512 * i + 4 * w)) (omega arith)
+          ∙ ap (λ (n : ℕ). getD b n 0) z
+
+  module _ (s : sound b ≡ true) where
+    same-blocks : blocks b' ≡ blocks b
+    unfolding blocks
+    same-blocks = ap (λ (n : ℕ). n / 512) (c .same-length)
+
+    same-whole : whole b' ≡ true
+    unfolding whole
+    same-whole = rw (same-blocks, c .same-length) (sound-whole b s)
+
+    -- no block of the new file whose words are right stands at i
+    found : (n D : ℕ) → Parts (word b' i) i n D → ⊥
+    found n D p = go (le-or-lt 126 w) (le-or-lt 127 w)
+      where
+        old : Parts (word b i) i (blocks b) (depthOf b)
+        old = parts b s i (c .block)
+
+        go : (126 ≤ w) ⊎ (w < 126) → (127 ≤ w) ⊎ (w < 127) → ⊥
+        go (inr x) y =
+            new (a-tells (word b i) (word b' i) w 126 x (λ k l z. other i k (omega arith) (λ e. z (omega arith))) (word-small b (c .bytes) i w) (word-small b' (c .bytes') i w)
+            (sym (p .check-a) ∙ other i 126 (omega arith) (λ e. omega arith) ∙ old .check-a))
+        go (inl x) (inr y) =
+            let e : w ≡ 126 = omega arith in
+            let t : check (word b' i) 126 ≡ check (word b i) 126 = check-ext (word b i) (word b' i) 126 (λ k l. other i k (omega arith) (λ z. omega arith)) in
+            new (ap (word b' i) e ∙ p .check-a ∙ ap (λ (q : Sums). q .a) t ∙ sym (old .check-a) ∙ ap (word b i) (sym e))
+        go (inl x) (inl y) =
+            let e : w ≡ 127 = omega (arith, c .in-block) in
+            let t : check (word b' i) 126 ≡ check (word b i) 126 = check-ext (word b i) (word b' i) 126 (λ k l. other i k (omega arith) (λ z. omega arith)) in
+            new (ap (word b' i) e ∙ p .check-b ∙ ap (λ (q : Sums). q .b) t ∙ sym (old .check-b) ∙ ap (word b i) (sym e))
+
+    -- the blocks before it stay sound
+    earlier : (j : ℕ) → j < i → soundBlock (word b' j) j (blocks b') (depthOf b') ≡ true
+    unfolding depthOf
+    earlier j h =
+        let d : word b' 0 2 ≡ word b 0 2 = other 0 2 (omega arith) (λ z. omega (arith, c .in-block)) in
+        rw (same-blocks, d) (carried (word b j) (word b' j) j (blocks b) (depthOf b) (λ v l. other j v l (λ z. omega (arith, c .in-block))) (parts b s j (omega (arith, c .block))))
+
+    first-wrong : firstUnsound b' ≡ i
+    unfolding firstUnsound
+    first-wrong =
+        first-is (λ j. not (soundBlock (word b' j) j (blocks b') (depthOf b'))) (blocks b') i (omega (arith, c .block, same-blocks))
+        (ap not (sym (wrong (word b' i) i (blocks b') (depthOf b') (found (blocks b') (depthOf b')))))
+        (λ k h. ap not (earlier k h))
+
+    change-unsound : sound b' ≡ false
+    unfolding sound
+    change-unsound = rw (same-whole, ne-eqb (firstUnsound b') (blocks b') (λ e. omega (arith, first-wrong, c .block, same-blocks)))
+
+    change-place : i ≡ wrongAt b'
+    unfolding wrongAt
+    change-place = sym (rw (wrongAt, same-whole) first-wrong)
+
+    -- ---- the calls: 9, at the block that was changed, and the reader's buffer as it was
+
+    nine : (answer 9 i 0 ≡ answer 9 (wrongAt b') 0) × (sound b' ≡ false)
+    nine = (ap (λ (p : ℕ). answer 9 p 0) change-place, change-unsound)
+
+    pub damage-checked : (r : Answer) → BlockCheckOf b' r → r ≡ answer 9 i 0
+    damage-checked r d = one-check-blocks b' r (answer 9 i 0) d (inl (_, (nine .1, refl), nine .0))
+
+    pub damage-measured : (r : Answer) → StoredVolumeOf b' r → r ≡ answer 9 i 0
+    damage-measured r d = one-stored-volume b' r (answer 9 i 0) d (inl (_, (nine .1, refl), nine .0))
+
+    pub damage-read : (o : List ℕ) (r : Reading) (o' : List ℕ) → ReadOf b' o r o' → (r ≡ record { answer = answer 9 i 0; depth = 0 }) × (o' ≡ o)
+    damage-read o r o' d =
+        let e = one-read b' o (r, o') (unread o (answer 9 i 0)) d (inl (_, (nine .1, refl), ap (unread o) (nine .0))) in
+        (ap (λ (t : Reading × List ℕ). t .0) e, ap (λ (t : Reading × List ℕ). t .1) e)

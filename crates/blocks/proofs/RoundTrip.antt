@@ -1,0 +1,230 @@
+-- The file of a list is sound and holds the list; a sound file is the file of the list that it holds. Assumes nothing.
+use mathlib.Core.Path.{_≡_, refl, sym, ap, _∙_}
+use mathlib.Core.Bool.{true, false, not}
+use mathlib.Core.List.{List}
+use mathlib.Core.Logic.{_⊎_, inl, inr, ⊎-elim}
+use Prim.Native.Nat.{ℕ, zero, suc, _+_, _-_, _*_, _/_, _%_, _^_, _≤_, _<_, min, max}
+use native.Mathlib.Omega.{arith}
+use lib.Dec.{eqb}
+use lib.ListN.{length, getD, List·getD-eq-default}
+use lib.Seq.{ext-getD}
+use borrow.Author.Tests.{lt-ltb, le-ltb, le-leb, lt-leb, eq-eqb}
+use Rattle.cells.specs.Answer.{deepest}
+use Rattle.cells.specs.Cell.{level}
+use Rattle.cells.proofs.Power.{le-or-lt, pow8-mono}
+use Rattle.cells.proofs.Words.{pow8-small}
+use Rattle.cells.proofs.Cells.{level-le, proper-bounds}
+use Rattle.records.specs.Record.{Good}
+use Rattle.records.proofs.Leaves.{member}
+use Rattle.records.proofs.Fault.{member-at, all-made}
+use Rattle.records.proofs.First.{first-none}
+use Rattle.records.proofs.Most.{few-leaves}
+use Rattle.blocks.specs.declared.Sums.{Sums}
+use Rattle.blocks.specs.Block.{word, check, rightCount, soundBlock, blocks, whole, depthOf, firstUnsound, sound, leaves, code, codes}
+use Rattle.blocks.specs.File.{blocksOf, plain, words, byteOf, fileOf}
+use Rattle.blocks.proofs.Files.{plain-code, words-plain, words-a, words-b, file-length, file-byte}
+use Rattle.blocks.proofs.Sound.{Parts, parts, some-block, all-blocks, codes-length, code-is}
+use Rattle.blocks.proofs.Words.{word-of-bytes, bytes-of-word, check-ext, check-small, carried}
+
+-- ---- a list that blocks can hold
+
+pub record Storable (D : ℕ) (l : List ℕ) : Type 0 where
+  pub shallow : D ≤ deepest
+  pub small : (k : ℕ) → getD l k 0 < 2 ^ 32
+  pub few : blocksOf (length l) < 2 ^ 32
+
+pub good-storable : (D : ℕ) (l : List ℕ) → D ≤ deepest → Good D l → Storable D l
+good-storable D l h g =
+    record {
+      shallow = h;
+      small = λ k. ⊎-elim (λ (x : length l ≤ k). omega (arith, List·getD-eq-default l 0 x)) (λ (x : k < length l). code-small k x) (le-or-lt (length l) k);
+      few = omega (arith, few-leaves D l g, pow8-small D h);
+    }
+  where
+    code-small : (k : ℕ) → k < length l → getD l k 0 < 2 ^ 32
+    code-small k x =
+        omega (arith, proper-bounds D (getD l k 0) (member D 0 l (getD l k 0) (g .ordered) (member-at l k x) .0), pow8-mono {i = level D (getD l k 0)} {j = deepest} (omega (arith, level-le D (getD l k 0))))
+
+-- ---- from the list to the file
+
+right-made : (n i k : ℕ) → (i + 1 < n → k ≡ 122) → k ≤ 122 → (k ≡ 0 → n ≡ 1) → rightCount n i k ≡ true
+unfolding rightCount
+right-made n i k a b c = ⊎-elim (λ (x : n ≤ i + 1). last x (le-or-lt 1 k)) (λ (x : i + 1 < n). rw (rightCount, lt-ltb (i + 1) n x, eq-eqb k 122 (a x))) (le-or-lt n (i + 1))
+  where
+    last : n ≤ i + 1 → (1 ≤ k) ⊎ (k < 1) → rightCount n i k ≡ true
+    last x (inl y) = rw (rightCount, le-ltb (i + 1) n x, le-leb k 122 b, le-leb 1 k y)
+    last x (inr y) = rw (rightCount, le-ltb (i + 1) n x, le-leb k 122 b, lt-leb 1 k y, eq-eqb n 1 (c (omega arith)))
+
+module _ (D : ℕ) (l : List ℕ) (s : Storable D l) where
+  plain-small : (i w : ℕ) → i < blocksOf (length l) → plain D l i w < 2 ^ 32
+  unfolding plain
+  plain-small i zero h = omega (arith, s .few)
+  plain-small i (suc zero) h = s .few
+  plain-small i (suc (suc zero)) h = omega (arith, s .shallow)
+  plain-small i (suc (suc (suc zero))) h = omega arith
+  plain-small i (suc (suc (suc (suc w)))) h = s .small (122 * i + w)
+
+  words-small : (i w : ℕ) → i < blocksOf (length l) → w < 128 → words D l i w < 2 ^ 32
+  words-small i w h k = go (le-or-lt 126 w) (le-or-lt 127 w)
+    where
+      go : (126 ≤ w) ⊎ (w < 126) → (127 ≤ w) ⊎ (w < 127) → words D l i w < 2 ^ 32
+      go (inr x) y = omega (arith, words-plain D l i w x, plain-small i w h)
+      go (inl x) (inr y) = let e : w ≡ 126 = omega arith in omega (arith, ap (words D l i) e, words-a D l i, check-small (plain D l i) 126)
+      go (inl x) (inl y) = let e : w ≡ 127 = omega arith in omega (arith, ap (words D l i) e, words-b D l i, check-small (plain D l i) 126)
+
+  word-file : (i w : ℕ) → i < blocksOf (length l) → w < 128 → word (fileOf D l) i w ≡ words D l i w
+  word-file i w h k = word-of-bytes (fileOf D l) i w (words D l i w) (words-small i w h k) (λ j x. file-byte D l i w j (512 * i + 4 * w + j) h k x refl)
+
+  w0 : (i : ℕ) → words D l i 0 ≡ i
+  unfolding plain
+  w0 i = words-plain D l i 0 (omega arith)
+
+  w1 : (i : ℕ) → words D l i 1 ≡ blocksOf (length l)
+  unfolding plain
+  w1 i = words-plain D l i 1 (omega arith)
+
+  w2 : (i : ℕ) → words D l i 2 ≡ D
+  unfolding plain
+  w2 i = words-plain D l i 2 (omega arith)
+
+  w3 : (i : ℕ) → words D l i 3 ≡ min 122 (length l - 122 * i)
+  unfolding plain
+  w3 i = words-plain D l i 3 (omega arith)
+
+  -- each block of the file is sound
+  words-parts : (i : ℕ) → i < blocksOf (length l) → Parts (words D l i) i (blocksOf (length l)) D
+  words-parts i h =
+      let full : i + 1 < blocksOf (length l) → words D l i 3 ≡ 122 = λ x. omega (arith, w3 i) in
+      let most : words D l i 3 ≤ 122 = omega (arith, w3 i) in
+      let some : words D l i 3 ≡ 0 → blocksOf (length l) ≡ 1 = λ x. omega (arith, w3 i) in
+      let sums : check (words D l i) 126 ≡ check (plain D l i) 126 = check-ext (plain D l i) (words D l i) 126 (λ k x. words-plain D l i k x) in
+      record {
+        index = w0 i;
+        number = w1 i;
+        shallow = omega (arith, w2 i, s .shallow);
+        depth = w2 i;
+        count = right-made (blocksOf (length l)) i (words D l i 3) full most some;
+        full = full;
+        most = most;
+        some = λ x. omega (arith, some x);
+        zeros = all-made (λ w. eqb (words D l i w) 0) (4 + words D l i 3) (122 - words D l i 3) (λ w lo hi. eq-eqb (words D l i w) 0 (beyond w lo (omega arith)));
+        unused = beyond;
+        check-a = words-a D l i ∙ ap (λ (x : Sums). x .a) (sym sums);
+        check-b = words-b D l i ∙ ap (λ (x : Sums). x .b) (sym sums);
+      }
+    where
+      beyond : (w : ℕ) → 4 + words D l i 3 ≤ w → w < 126 → words D l i w ≡ 0
+      beyond w lo hi =
+          words-plain D l i w hi ∙ plain-code D l i w (omega arith) ∙ List·getD-eq-default l 0 (omega (arith, w3 i))
+
+  file-blocks : blocks (fileOf D l) ≡ blocksOf (length l)
+  unfolding blocks
+  file-blocks = omega (arith, file-length D l)
+
+  pub file-depth : depthOf (fileOf D l) ≡ D
+  unfolding depthOf
+  file-depth = word-file 0 2 (omega arith) (omega arith) ∙ w2 0
+
+  pub file-sound : sound (fileOf D l) ≡ true
+  unfolding sound whole firstUnsound
+  file-sound =
+      rw (file-blocks, file-depth)
+      (rw (le-leb 1 (blocksOf (length l)) (omega arith), eq-eqb (length (fileOf D l) % 512) 0 (omega (arith, file-length D l)))
+      (eq-eqb _ (blocksOf (length l))
+      (first-none (λ i. not (soundBlock (word (fileOf D l) i) i (blocksOf (length l)) D)) (blocksOf (length l))
+      (λ i h. ap not (carried (words D l i) (word (fileOf D l) i) i (blocksOf (length l)) D (λ w k. word-file i w h k) (words-parts i h))))))
+
+  pub file-leaves : leaves (fileOf D l) ≡ length l
+  unfolding leaves
+  file-leaves =
+      rw file-blocks
+      (omega (arith, word-file (blocksOf (length l) - 1) 3 (omega arith) (omega arith), w3 (blocksOf (length l) - 1)))
+
+  pub file-codes : codes (fileOf D l) ≡ l
+  unfolding code
+  file-codes =
+      ext-getD 0 (codes (fileOf D l)) l (codes-length (fileOf D l) ∙ file-leaves) (λ j h. at j (omega (arith, codes-length (fileOf D l), file-leaves)))
+    where
+      at : (j : ℕ) → j < length l → getD (codes (fileOf D l)) j 0 ≡ getD l j 0
+      at j h =
+          code-is (fileOf D l) j (omega (arith, file-leaves))
+          ∙ word-file (j / 122) (4 + j % 122) (omega arith) (omega arith)
+          ∙ words-plain D l (j / 122) (4 + j % 122) (omega arith)
+          ∙ plain-code D l (j / 122) (4 + j % 122) (omega arith)
+          ∙ ap (λ (n : ℕ). getD l n 0) (omega arith)
+
+-- ---- a sound file is the file of its codes
+
+count-blocks : (n k m : ℕ) → 1 ≤ n → k ≤ 122 → (k ≡ 0 → n ≤ 1) → m ≡ 122 * (n - 1) + k → blocksOf m ≡ n
+count-blocks n k m a b c e = ⊎-elim (λ (x : 1 ≤ k). omega arith) (λ (x : k < 1). omega (arith, c (omega arith))) (le-or-lt 1 k)
+
+module _ (b : List ℕ) (s : sound b ≡ true) where
+  leaves-is : leaves b ≡ 122 * (blocks b - 1) + word b (blocks b - 1) 3
+  unfolding leaves
+  leaves-is = refl
+
+  pub same-blocks : blocksOf (length (codes b)) ≡ blocks b
+  same-blocks =
+      let p = parts b s (blocks b - 1) (omega (arith, some-block b s)) in
+      count-blocks (blocks b) (word b (blocks b - 1) 3) (length (codes b)) (some-block b s) (p .most) (p .some) (codes-length b ∙ leaves-is)
+
+  module _ (i : ℕ) (h : i < blocks b) where
+    p : Parts (word b i) i (blocks b) (depthOf b)
+    p = parts b s i h
+
+    -- how many codes block i holds, counted from the file's end
+    held-here : min 122 (leaves b - 122 * i) ≡ word b i 3
+    held-here = ⊎-elim (λ (x : blocks b ≤ i + 1). at-last (omega arith)) (λ (x : i + 1 < blocks b). omega (arith, p .full x, leaves-is)) (le-or-lt (blocks b) (i + 1))
+      where
+        at-last : i ≡ blocks b - 1 → min 122 (leaves b - 122 * i) ≡ word b i 3
+        at-last e = omega (arith, leaves-is, p .most, ap (λ (n : ℕ). word b n 3) e)
+
+    a-code : (w : ℕ) → 4 ≤ w → w < 126 → getD (codes b) (122 * i + (w - 4)) 0 ≡ word b i w
+    unfolding code
+    a-code w lo hi = ⊎-elim (λ (x : leaves b ≤ 122 * i + (w - 4)). none x) (λ (x : 122 * i + (w - 4) < leaves b). one x) (le-or-lt (leaves b) (122 * i + (w - 4)))
+      where
+        none : leaves b ≤ 122 * i + (w - 4) → getD (codes b) (122 * i + (w - 4)) 0 ≡ word b i w
+        none x = List·getD-eq-default (codes b) 0 (omega (arith, codes-length b)) ∙ sym (p .unused w (omega (arith, held-here)) hi)
+
+        one : 122 * i + (w - 4) < leaves b → getD (codes b) (122 * i + (w - 4)) 0 ≡ word b i w
+        one x =
+            let q : (122 * i + (w - 4)) / 122 ≡ i = omega arith in
+            let r : 4 + (122 * i + (w - 4)) % 122 ≡ w = omega arith in
+            code-is b (122 * i + (w - 4)) x ∙ rw (q, r)
+
+    plain-same : (w : ℕ) → w < 126 → plain (depthOf b) (codes b) i w ≡ word b i w
+    unfolding plain
+    plain-same zero k = sym (p .index)
+    plain-same (suc zero) k = same-blocks ∙ sym (p .number)
+    plain-same (suc (suc zero)) k = sym (p .depth)
+    plain-same (suc (suc (suc zero))) k = ap (λ (n : ℕ). min 122 (n - 122 * i)) (codes-length b) ∙ held-here
+    plain-same (suc (suc (suc (suc w)))) k = plain-code (depthOf b) (codes b) i (suc (suc (suc (suc w)))) (omega arith) ∙ a-code (suc (suc (suc (suc w)))) (omega arith) k
+
+    words-same : (w : ℕ) → w < 128 → words (depthOf b) (codes b) i w ≡ word b i w
+    words-same w k = go (le-or-lt 126 w) (le-or-lt 127 w)
+      where
+        sums : check (plain (depthOf b) (codes b) i) 126 ≡ check (word b i) 126
+        sums = check-ext (word b i) (plain (depthOf b) (codes b) i) 126 plain-same
+
+        go : (126 ≤ w) ⊎ (w < 126) → (127 ≤ w) ⊎ (w < 127) → words (depthOf b) (codes b) i w ≡ word b i w
+        go (inr x) y = words-plain (depthOf b) (codes b) i w x ∙ plain-same w x
+        go (inl x) (inr y) =
+            let e : w ≡ 126 = omega arith in
+            ap (words (depthOf b) (codes b) i) e ∙ words-a (depthOf b) (codes b) i ∙ ap (λ (q : Sums). q .a) sums ∙ sym (p .check-a) ∙ ap (word b i) (sym e)
+        go (inl x) (inl y) =
+            let e : w ≡ 127 = omega arith in
+            ap (words (depthOf b) (codes b) i) e ∙ words-b (depthOf b) (codes b) i ∙ ap (λ (q : Sums). q .b) sums ∙ sym (p .check-b) ∙ ap (word b i) (sym e)
+
+  pub same-file : ((k : ℕ) → getD b k 0 < 256) → fileOf (depthOf b) (codes b) ≡ b
+  same-file bytes = ext-getD 0 (fileOf (depthOf b) (codes b)) b size (λ j h. at j (omega (arith, size)))
+    where
+      size : length (fileOf (depthOf b) (codes b)) ≡ length b
+      size = omega (arith, file-length (depthOf b) (codes b), same-blocks, all-blocks b s)
+
+      at : (j : ℕ) → j < length b → getD (fileOf (depthOf b) (codes b)) j 0 ≡ getD b j 0
+      at j h =
+          let hi : j / 512 < blocks b = omega (arith, all-blocks b s) in
+          file-byte (depthOf b) (codes b) (j / 512) (j % 512 / 4) (j % 4) j (omega (arith, same-blocks)) (omega arith) (omega arith) (omega arith)
+          ∙ ap (λ (x : ℕ). byteOf x (j % 4)) (words-same (j / 512) hi (j % 512 / 4) (omega arith))
+          ∙ bytes-of-word b bytes (j / 512) (j % 512 / 4) (j % 4) (omega arith)
+          ∙ ap (λ (n : ℕ). getD b n 0) (omega arith)

@@ -1,0 +1,43 @@
+-- `blocks::inner::soundness::right_check` meets its contract. Assumes nothing.
+use mathlib.Core.Path.{_≡_, sym, ap, _∙_}
+use Prim.Native.Nat.{ℕ}
+use lib.Dec.{eqb}
+use borrow.Author.Needs.{needs}
+use borrow.Author.Tests.{eq-eqb, ne-eqb}
+use Rattle.blocks.specs.Block.{word, check}
+use Rattle.blocks.specs.declared.Sums.{Sums}
+use Rattle.blocks.proofs.inner.soundness.right_check.Statement.{statement}
+use Rattle.blocks.proofs.inner.soundness.right_check.Tie as tie
+
+sum-up-requires : tie.Need-sum-up-requires
+sum-up-requires c κs = search needs
+
+word-at-requires : tie.Need-word-at-requires
+word-at-requires c κs = search needs
+
+-- ---- A and word 126
+
+module _ (c : tie.After-word-at) where
+  abbrev v : ℕ → ℕ
+  v = word (c .before .before .before .args .bytes .now) (c .before .before .before .args .i)
+
+  is-a : c .before .sum-up .result .a ≡ check v 126 .a
+  is-a = ap (λ (s : Sums). s .a) (c .before .sum-up .ensures)
+
+returns : tie.Need-returns
+returns c =
+    let p = c .before .before in
+    rw (ne-eqb (v p 126) (check (v p) 126 .a) (λ e. c .if1 .taken (p .word-at .ensures ∙ e ∙ sym (is-a p))))
+
+word-at-requires-2 : tie.Need-word-at-requires-2
+word-at-requires-2 c κs = search needs
+
+returns-2 : tie.Need-returns-2
+returns-2 c =
+    let p = c .before .before .before .before in
+    let t : p .word-at .result ≡ p .before .sum-up .result .a = search needs in
+    rw (eq-eqb (v p 126) (check (v p) 126 .a) (sym (p .word-at .ensures) ∙ t ∙ is-a p), c .before .word-at2 .ensures)
+    (ap (λ (s : Sums). eqb (v p 127) (s .b)) (p .before .sum-up .ensures))
+
+pub right-check-spec : {M : Type 1} → statement M
+right-check-spec = tie.close (tie.spec sum-up-requires word-at-requires returns word-at-requires-2 returns-2)

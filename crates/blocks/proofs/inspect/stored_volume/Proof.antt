@@ -1,0 +1,47 @@
+-- `blocks::inspect::stored_volume` meets its contract: the voxels of the leaves are the black ones. Assumes nothing.
+use mathlib.Core.Path.{_≡_, sym, ap, _∙_}
+use mathlib.Core.List.{List, []}
+use Prim.Native.Nat.{ℕ}
+use borrow.Author.Needs.{needs}
+use Rattle.cells.specs.Answer.{given, alone}
+use Rattle.cells.specs.declared.Answer.{Answer}
+use Rattle.records.proofs.Volume.{blacks, list-volume}
+use Rattle.blocks.specs.Block.{depthOf, codes}
+use Rattle.blocks.proofs.CallLaws.{survey-first, survey-next, held}
+use Rattle.blocks.proofs.inspect.stored_volume.Statement.{statement}
+use Rattle.blocks.proofs.inspect.stored_volume.Tie as tie
+
+module _ (c : tie.After-answer) where
+  abbrev b : List ℕ
+  b = c .before .before .before .args .bytes .now
+
+  abbrev Told : Answer → Type 0
+  Told r = r ≡ given (blacks (depthOf b) (codes b))
+
+survey-of-requires : tie.Need-survey-of-requires
+survey-of-requires c κs = search needs
+
+returns : tie.Need-returns
+returns c =
+    let t = c .before in
+    let r = t .before .survey-of in
+    survey-first (b t) (r .result .answer) (r .ensures .tells) alone [] (Told t) (c .if1 .taken)
+
+cast-success : tie.Need-cast-success
+cast-success c = search needs
+
+success-requires : tie.Need-success-requires
+success-requires c κs = search needs
+
+returns-2 : tie.Need-returns-2
+returns-2 c =
+    let t = c .before .before in
+    let r = t .before .survey-of in
+    let z : r .result .answer .number ≡ 0 = search needs in
+    let k = held (b t) (r .result .answer) (r .ensures .tells) z in
+    survey-next (b t) (r .result .answer) (r .ensures .tells) alone [] (Told t) _ z
+    (c .success .ensures ∙ ap given (r .ensures .is-voxels z ∙ sym (list-volume (depthOf (b t)) 0 (codes (b t)) (k .good .ordered))))
+
+pub stored-volume-spec : {M : Type 1} → statement M
+stored-volume-spec =
+    tie.close (tie.spec survey-of-requires returns cast-success success-requires returns-2)

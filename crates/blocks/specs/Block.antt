@@ -1,0 +1,93 @@
+-- Stored blocks: document 01, "Stored blocks". A file is its bytes; a block is 128 words, here a function from the word's index to its number. Definitions only.
+use Prim.Native.Nat.{ℕ, zero, suc, _+_, _-_, _*_, _/_, _%_, _^_}
+use mathlib.Core.Bool.{Bool, true, false, not, _&&_, _||_}
+use mathlib.Core.List.{List, [], _∷_, _++_}
+use lib.Dec.{leb, ltb, eqb}
+use lib.ListN.{length, getD}
+use Rattle.cells.specs.Answer.{deepest}
+use Rattle.records.specs.Fault.{allFrom, firstFrom}
+use Rattle.blocks.specs.declared.Sums.{Sums}
+
+-- word w of block i: four bytes, the lowest first
+unfoldable pub word : List ℕ → ℕ → ℕ → ℕ
+word b i w =
+    getD b (512 * i + 4 * w) 0 + 256 * (getD b (512 * i + 4 * w + 1) 0 + 256 * (getD b (512 * i + 4 * w + 2) 0 + 256 * getD b (512 * i + 4 * w + 3) 0))
+
+-- A takes the word and then B takes A, both sums wrapping at 32 bits
+abbrev pub taking : Sums → ℕ → Sums
+taking s x = record { a = (s .a + x) % 2 ^ 32; b = (s .b + (s .a + x) % 2 ^ 32) % 2 ^ 32 }
+
+-- the check of the words 0 to n - 1: A begins at 1 and B at 0
+unfoldable pub check : (ℕ → ℕ) → ℕ → Sums
+check v zero = record { a = 1; b = 0 }
+check v (suc n) = taking (check v n) (v n)
+
+-- ---- the six things a block can have wrong: v is its words, i its position, n the file's blocks, D block 0's depth
+
+-- word 0: the index is its position
+abbrev pub rightIndex : (ℕ → ℕ) → ℕ → Bool
+rightIndex v i = eqb (v 0) i
+
+-- word 1: the block count is the file's
+abbrev pub rightBlocks : (ℕ → ℕ) → ℕ → Bool
+rightBlocks v n = eqb (v 1) n
+
+-- word 2: the depth is at most the greatest, and block 0's
+abbrev pub rightDepth : (ℕ → ℕ) → ℕ → Bool
+rightDepth v D = leb (v 2) deepest && eqb (v 2) D
+
+-- word 3: all blocks but the last hold 122 codes; the last holds 1 to 122, and 0 only where it is the one block
+unfoldable pub rightCount : ℕ → ℕ → ℕ → Bool
+rightCount n i k = elim (ltb (i + 1) n) [ true ↦ eqb k 122 | false ↦ leb k 122 && (leb 1 k || eqb n 1) ]
+
+-- words 4 to 125: the unused ones are 0
+abbrev pub unusedZero : (ℕ → ℕ) → Bool
+unusedZero v = allFrom (λ w. eqb (v w) 0) (4 + v 3) (122 - v 3)
+
+-- words 126 and 127: the check
+abbrev pub rightCheck : (ℕ → ℕ) → Bool
+rightCheck v = eqb (v 126) (check v 126 .a) && eqb (v 127) (check v 126 .b)
+
+-- whether every word of the block is right
+unfoldable pub soundBlock : (ℕ → ℕ) → ℕ → ℕ → ℕ → Bool
+soundBlock v i n D = rightIndex v i && (rightBlocks v n && (rightDepth v D && (rightCount n i (v 3) && (unusedZero v && rightCheck v))))
+
+-- ---- the file
+
+-- how many whole blocks; whether there is a block and nothing beside whole blocks
+unfoldable pub blocks : List ℕ → ℕ
+blocks b = length b / 512
+
+unfoldable pub whole : List ℕ → Bool
+whole b = leb 1 (blocks b) && eqb (length b % 512) 0
+
+unfoldable pub depthOf : List ℕ → ℕ
+depthOf b = word b 0 2
+
+-- the first block with any wrong word; the number of blocks where there is none
+unfoldable pub firstUnsound : List ℕ → ℕ
+firstUnsound b = firstFrom (λ i. not (soundBlock (word b i) i (blocks b) (depthOf b))) 0 (blocks b)
+
+unfoldable pub sound : List ℕ → Bool
+sound b = whole b && eqb (firstUnsound b) (blocks b)
+
+-- the place that number 9 names: the count of whole blocks for a length that is 0 or no multiple of 512, else the first block with a wrong word
+unfoldable pub wrongAt : List ℕ → ℕ
+wrongAt b = elim (whole b) [ true ↦ firstUnsound b | false ↦ blocks b ]
+
+-- ---- the codes of a sound file
+
+-- the numbers f 0 to f (n - 1)
+unfoldable pub table : (ℕ → ℕ) → ℕ → List ℕ
+table f zero = []
+table f (suc n) = table f n ++ (f n ∷ [])
+
+-- how many codes the blocks hold, and which
+unfoldable pub leaves : List ℕ → ℕ
+leaves b = 122 * (blocks b - 1) + word b (blocks b - 1) 3
+
+unfoldable pub code : List ℕ → ℕ → ℕ
+code b j = word b (j / 122) (4 + j % 122)
+
+unfoldable pub codes : List ℕ → List ℕ
+codes b = table (code b) (leaves b)

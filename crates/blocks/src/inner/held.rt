@@ -1,0 +1,83 @@
+// INNER: the list that a file holds, judged where it stands among the bytes, and what is told of it.
+use crate::inner::soundness::leaves_of;
+use crate::inner::soundness::soundness_of;
+use crate::inner::words::code_at;
+use crate::inner::words::word_at;
+use cells::Answer;
+use cells::inner::refusal;
+use cells::inner::success;
+use records::inner::Verdict;
+use records::inner::begin;
+use records::inner::step;
+ghost use mathlib.Core.Path.{_≡_};
+ghost use mathlib.Core.Bool.{true};
+ghost use Rattle.records.specs.Walk.{Found};
+ghost use Rattle.blocks.specs.Block.{sound, depthOf, leaves, codes};
+ghost use Rattle.blocks.specs.Inner.{Surveyed};
+
+// The first fault of the n codes of a sound file.
+pub fn judge_stored(depth: u32, bytes: &[u8], n: usize) -> Verdict
+    requires { ⌜ (sound (now bytes) ≡ true) × (depth ≡ depthOf (now bytes)) × (n ≡ leaves (now bytes)) ⌝ }
+    ensures { λ r. ⌜ Found depth (codes (now (bytes .entry))) r ⌝ }
+{
+    let mut walk = begin();
+    let mut i: usize = 0;
+    while i < n {
+        walk = step(depth, walk, code_at(bytes, i));
+        let number = walk.number;
+        if number != 0 {
+            return Verdict {
+                number,
+                place: i as u64,
+                sum: 0,
+            };
+        }
+        i += 1;
+    }
+    Verdict {
+        number: 0,
+        place: i as u64,
+        sum: walk.sum,
+    }
+}
+
+// What is told of a file: the number of its leaves or why it is refused; its depth and its leaves' voxels, 0 where it is refused.
+pub struct Survey {
+    pub answer: Answer,
+    pub depth: u32,
+    pub voxels: u32,
+}
+
+fn no_survey(answer: Answer) -> Survey
+    ensures { λ r. ⌜ r .answer ≡ answer ⌝ }
+{
+    Survey {
+        answer,
+        depth: 0,
+        voxels: 0,
+    }
+}
+
+// The file judged: 9 for its blocks, 2 to 4 for the first fault of the list that they hold.
+pub fn survey_of(bytes: &[u8]) -> Survey
+    ensures { λ r. ⌜ Surveyed (now (bytes .entry)) r ⌝ }
+{
+    let seen = soundness_of(bytes);
+    let n = seen.place;
+    if !seen.sound {
+        return no_survey(refusal(9, n as u64, 0));
+    }
+    let leaves = leaves_of(bytes, n);
+    let depth = word_at(bytes, 0, 2);
+    let found = judge_stored(depth, bytes, leaves);
+    let number = found.number;
+    let place = found.place;
+    if number != 0 {
+        return no_survey(refusal(number, place, 1));
+    }
+    Survey {
+        answer: success(place),
+        depth,
+        voxels: found.sum,
+    }
+}

@@ -1,0 +1,152 @@
+// INNER: whether the blocks of a file are sound, word by word.
+use crate::Sums;
+use crate::inner::words::word_at;
+use cells::DEEPEST;
+ghost use mathlib.Core.Path.{_≡_};
+ghost use mathlib.Core.Bool.{true};
+ghost use Prim.Native.Nat.{_+_, _-_, _*_, _≤_, _<_};
+ghost use lib.Dec.{eqb};
+ghost use lib.ListN.{length};
+ghost use Rattle.records.specs.Fault.{allFrom};
+ghost use Rattle.blocks.specs.Block.{word, check, rightCount, rightCheck, soundBlock, blocks, firstUnsound, sound, wrongAt, leaves};
+
+// The check of words 0 to 125 of block i.
+pub fn sum_up(bytes: &[u8], i: usize) -> Sums
+    requires { ⌜ 512 * i + 512 ≤ length (now bytes) ⌝ }
+    ensures { λ r. ⌜ r ≡ check (word (now (bytes .entry)) i) 126 ⌝ }
+{
+    let mut a: u32 = 1;
+    let mut b: u32 = 0;
+    let mut w: usize = 0;
+    while w < 126 {
+        a = std::num::wrapping_add_u32(a, word_at(bytes, i, w));
+        b = std::num::wrapping_add_u32(b, a);
+        w += 1;
+    }
+    Sums { a, b }
+}
+
+// Whether words 126 and 127 of block i are its check.
+pub fn right_check(bytes: &[u8], i: usize) -> bool
+    requires { ⌜ 512 * i + 512 ≤ length (now bytes) ⌝ }
+    ensures { λ r. ⌜ r ≡ rightCheck (word (now (bytes .entry)) i) ⌝ }
+{
+    let sums = sum_up(bytes, i);
+    if word_at(bytes, i, 126) != sums.a {
+        return false;
+    }
+    word_at(bytes, i, 127) == sums.b
+}
+
+// Whether block i of n may hold k codes.
+pub fn right_count(n: usize, i: usize, k: usize) -> bool
+    requires { ⌜ i < n ⌝ }
+    ensures { λ r. ⌜ r ≡ rightCount n i k ⌝ }
+{
+    if i + 1 < n {
+        return k == 122;
+    }
+    if 122 < k {
+        return false;
+    }
+    if 0 < k {
+        return true;
+    }
+    n == 1
+}
+
+// Whether the words of block i after its k codes are 0.
+pub fn unused_zero(bytes: &[u8], i: usize, k: usize) -> bool
+    requires { ⌜ (512 * i + 512 ≤ length (now bytes)) × (k ≤ 122) ⌝ }
+    ensures { λ r. ⌜ r ≡ allFrom (λ w. eqb (word (now (bytes .entry)) i w) 0) (4 + k) (122 - k) ⌝ }
+{
+    let mut w = 4 + k;
+    while w < 126 {
+        if word_at(bytes, i, w) != 0 {
+            return false;
+        }
+        w += 1;
+    }
+    true
+}
+
+// Whether every word of block i of n is right, block 0's depth being given.
+pub fn is_sound(bytes: &[u8], i: usize, n: usize, depth: u32) -> bool
+    requires { ⌜ (512 * n ≤ length (now bytes)) × (i < n) ⌝ }
+    ensures { λ r. ⌜ r ≡ soundBlock (word (now (bytes .entry)) i) i n depth ⌝ }
+{
+    if word_at(bytes, i, 0) as usize != i {
+        return false;
+    }
+    if word_at(bytes, i, 1) as usize != n {
+        return false;
+    }
+    let d = word_at(bytes, i, 2);
+    if DEEPEST < d {
+        return false;
+    }
+    if d != depth {
+        return false;
+    }
+    let k = word_at(bytes, i, 3) as usize;
+    if !right_count(n, i, k) {
+        return false;
+    }
+    if !unused_zero(bytes, i, k) {
+        return false;
+    }
+    right_check(bytes, i)
+}
+
+// The first unsound block of n, n where there is none.
+pub fn first_unsound(bytes: &[u8], n: usize) -> usize
+    requires { ⌜ (n ≡ blocks (now bytes)) × (0 < n) ⌝ }
+    ensures { λ r. ⌜ r ≡ firstUnsound (now (bytes .entry)) ⌝ }
+{
+    let depth = word_at(bytes, 0, 2);
+    let mut i: usize = 0;
+    while i < n {
+        if !is_sound(bytes, i, n, depth) {
+            return i;
+        }
+        i += 1;
+    }
+    i
+}
+
+// Whether a file is sound, and the place that number 9 names: of a sound file, the number of its blocks.
+pub struct Soundness {
+    pub sound: bool,
+    pub place: usize,
+}
+
+pub fn soundness_of(bytes: &[u8]) -> Soundness
+    ensures { λ r. ⌜ (r .sound ≡ sound (now (bytes .entry))) × (r .place ≡ wrongAt (now (bytes .entry))) ⌝ }
+{
+    let n = bytes.len() / 512;
+    if n == 0 {
+        return Soundness {
+            sound: false,
+            place: n,
+        };
+    }
+    if bytes.len() % 512 != 0 {
+        return Soundness {
+            sound: false,
+            place: n,
+        };
+    }
+    let i = first_unsound(bytes, n);
+    Soundness {
+        sound: i == n,
+        place: i,
+    }
+}
+
+// How many codes the n blocks of a sound file hold.
+pub fn leaves_of(bytes: &[u8], n: usize) -> usize
+    requires { ⌜ (sound (now bytes) ≡ true) × (n ≡ wrongAt (now bytes)) ⌝ }
+    ensures { λ r. ⌜ r ≡ leaves (now (bytes .entry)) ⌝ }
+{
+    122 * (n - 1) + word_at(bytes, n - 1, 3) as usize
+}

@@ -1,0 +1,34 @@
+// What is told of a stored file without a copy of its list: `check_blocks` and `stored_volume`.
+use crate::inner::held::survey_of;
+use crate::inner::soundness::leaves_of;
+use crate::inner::soundness::soundness_of;
+use cells::Answer;
+use cells::inner::refusal;
+use cells::inner::success;
+ghost use Rattle.blocks.specs.Calls.{BlockCheckOf, StoredVolumeOf};
+
+// Whether the blocks of a file are sound: how many leaves they hold, or 9. The leaves themselves are not judged.
+pub fn check_blocks(bytes: &[u8]) -> Answer
+    ensures { λ r. ⌜ BlockCheckOf (now (bytes .entry)) r ⌝ }
+{
+    let seen = soundness_of(bytes);
+    let n = seen.place;
+    if !seen.sound {
+        return refusal(9, n as u64, 0);
+    }
+    success(leaves_of(bytes, n) as u64)
+}
+
+// How many voxels are black in the list that a file holds, or 9 for its blocks, 2 to 4 for the list.
+pub fn stored_volume(bytes: &[u8]) -> Answer
+    ensures { λ r. ⌜ StoredVolumeOf (now (bytes .entry)) r ⌝ }
+{
+    let survey = survey_of(bytes);
+    let answer = survey.answer;
+    let number = answer.number;
+    if number != 0 {
+        return answer;
+    }
+    let voxels = survey.voxels;
+    success(voxels as u64)
+}

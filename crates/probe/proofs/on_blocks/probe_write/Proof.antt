@@ -1,0 +1,31 @@
+-- `probe::on_blocks::probe_write` meets its contract: the library's answer, told. Assumes nothing.
+use mathlib.Core.Path.{refl}
+use mathlib.Core.Logic.{inl, inr}
+use native.Mathlib.Omega.{arith}
+use borrow.Author.Needs.{needs}
+use Rattle.probe.proofs.on_blocks.probe_write.Statement.{statement}
+use Rattle.probe.proofs.on_blocks.probe_write.Tie as tie
+
+returns : tie.Need-returns
+returns c = inl (omega arith, (refl, refl))
+
+write-requires : tie.Need-write-requires
+write-requires c κs = search needs
+
+tell-requires : tie.Need-tell-requires
+tell-requires c κs = search needs
+
+same-length : tie.Need-same-length
+same-length c = search needs
+
+same-length-2 : tie.Need-same-length-2
+same-length-2 c = search needs
+
+returns-2 : tie.Need-returns-2
+returns-2 c =
+    let t = c .before .before in
+    let s = t .before .before .before .before in
+    inr (omega arith, (s .write .result, s .write .ensures, t .tell .ensures))
+
+pub probe-write-spec : {M : Type 1} → statement M
+probe-write-spec = tie.close (tie.spec returns write-requires tell-requires same-length same-length-2 returns-2)
