@@ -39,12 +39,18 @@ extern "C" {
         answer: *mut u64,
         len: usize,
     );
+    fn probe_write(depth: u32, list: *const u32, list_len: usize, bytes: *mut u8, room: usize, answer: *mut u64, len: usize);
+    fn probe_read(bytes: *const u8, bytes_len: usize, out: *mut u32, room: usize, answer: *mut u64, len: usize);
+    fn probe_block_check(bytes: *const u8, bytes_len: usize, answer: *mut u64, len: usize);
+    fn probe_stored_volume(bytes: *const u8, bytes_len: usize, answer: *mut u64, len: usize);
     fn probe_less(depth: u32, a: *const u32, a_len: usize, b: *const u32, b_len: usize, out: *mut u32, room: usize, answer: *mut u64, len: usize);
 }
 
 #[link(name = "cab", kind = "static")]
 extern "C" {
     fn cab_neighbour(depth: u32, code: u32, dx: i32, dy: i32, dz: i32) -> u64;
+    fn cab_check_blocks(bytes: *const u8, len: usize) -> u64;
+    fn cab_stored_volume(bytes: *const u8, len: usize) -> u64;
 }
 
 /// Number, place, list, and what comes beside the place.
@@ -114,53 +120,78 @@ pub fn lookup(n: usize, depth: u32, list: &[u32], at: [u32; 3]) -> Told {
 }
 
 const WORD_GUARD: u32 = 0x5a3c_a5c3;
+const BYTE_GUARD: u8 = 0xc5;
 
-/// What a call wrote at the front of a buffer of `room` words between guards: the call tells how many words at the front may have changed.
-fn written(room: usize, call: impl FnOnce(*mut u32) -> Result<usize, String>) -> Result<Vec<u32>, String> {
-    let mut words = vec![WORD_GUARD; room + 8];
-    let front = call(words[4..].as_mut_ptr())?.min(room);
-    if words[..4].iter().chain(&words[4 + front..]).any(|w| *w != WORD_GUARD) {
-        return Err("a word beyond what is written changed".to_string());
+/// What a call wrote at the front of a buffer of `room` elements between guards: the call tells how many at the front may have changed.
+fn written<T: Copy + PartialEq>(guard: T, room: usize, call: impl FnOnce(*mut T) -> Result<usize, String>) -> Result<Vec<T>, String> {
+    let mut lent = vec![guard; room + 8];
+    let front = call(lent[4..].as_mut_ptr())?.min(room);
+    if lent[..4].iter().chain(&lent[4 + front..]).any(|w| *w != guard) {
+        return Err("the buffer beyond what is written changed".to_string());
     }
-    Ok(words[4..4 + front].to_vec())
+    Ok(lent[4..4 + front].to_vec())
 }
 
-/// An answer, and the words that a call wrote.
-pub type Wrote = Result<(Option<Answer>, Vec<u32>), String>;
+/// An answer, and what a call wrote.
+pub type Wrote<T> = Result<(Option<Answer>, Vec<T>), String>;
 
 /// The answer and the codes of the returned part, as many as the room takes.
-pub fn met(n: usize, room: usize, depth: u32, list: &[u32], code: u32, d: [i32; 3]) -> Wrote {
+pub fn met(n: usize, room: usize, depth: u32, list: &[u32], code: u32, d: [i32; 3]) -> Wrote<u32> {
     let mut found = None;
-    let part = written(room, |out| {
+    let part = written(WORD_GUARD, room, |out| {
         found = told(n, |p, len| unsafe { probe_met(depth, list.as_ptr(), list.len(), code, d[0], d[1], d[2], out, room, p, len) })?;
         Ok(found.map_or(0, |a| a.beside[0] as usize))
     })?;
     Ok((found, part))
 }
 
-/// A call that writes a list: the answer, and the codes that it says are written.
-fn wrote(n: usize, room: usize, call: impl FnOnce(*mut u32, *mut u64, usize)) -> Wrote {
+/// A call that writes: the answer, and the front of the buffer that it says is written.
+fn wrote<T: Copy + PartialEq>(guard: T, n: usize, room: usize, call: impl FnOnce(*mut T, *mut u64, usize)) -> Wrote<T> {
     let mut found = None;
-    let codes = written(room, |out| {
+    let codes = written(guard, room, |out| {
         found = told(n, |p, len| call(out, p, len))?;
         Ok(found.map_or(0, |a| if a.number == 0 { a.place as usize } else { 0 }))
     })?;
     Ok((found, codes))
 }
 
-pub fn set(op: Op, n: usize, room: usize, depth: u32, a: &[u32], b: &[u32]) -> Wrote {
+pub fn set(op: Op, n: usize, room: usize, depth: u32, a: &[u32], b: &[u32]) -> Wrote<u32> {
     let call = match op {
         Op::Join => probe_join,
         Op::Meet => probe_meet,
         Op::Less => probe_less,
     };
-    wrote(n, room, |out, p, len| unsafe { call(depth, a.as_ptr(), a.len(), b.as_ptr(), b.len(), out, room, p, len) })
+    wrote(WORD_GUARD, n, room, |out, p, len| unsafe { call(depth, a.as_ptr(), a.len(), b.as_ptr(), b.len(), out, room, p, len) })
 }
 
-pub fn shift(n: usize, room: usize, depth: u32, list: &[u32], d: [i32; 3]) -> Wrote {
-    wrote(n, room, |out, p, len| unsafe { probe_move(depth, list.as_ptr(), list.len(), d[0], d[1], d[2], out, room, p, len) })
+pub fn shift(n: usize, room: usize, depth: u32, list: &[u32], d: [i32; 3]) -> Wrote<u32> {
+    wrote(WORD_GUARD, n, room, |out, p, len| unsafe { probe_move(depth, list.as_ptr(), list.len(), d[0], d[1], d[2], out, room, p, len) })
 }
 
-pub fn shift_metres(n: usize, room: usize, depth: u32, list: &[u32], d: [f64; 3], s: u32) -> Wrote {
-    wrote(n, room, |out, p, len| unsafe { probe_move_metres(depth, list.as_ptr(), list.len(), d[0], d[1], d[2], s, out, room, p, len) })
+pub fn shift_metres(n: usize, room: usize, depth: u32, list: &[u32], d: [f64; 3], s: u32) -> Wrote<u32> {
+    wrote(WORD_GUARD, n, room, |out, p, len| unsafe { probe_move_metres(depth, list.as_ptr(), list.len(), d[0], d[1], d[2], s, out, room, p, len) })
+}
+
+pub fn write(n: usize, room: usize, depth: u32, list: &[u32]) -> Wrote<u8> {
+    wrote(BYTE_GUARD, n, room, |out, p, len| unsafe { probe_write(depth, list.as_ptr(), list.len(), out, room, p, len) })
+}
+
+pub fn read(n: usize, room: usize, bytes: &[u8]) -> Wrote<u32> {
+    wrote(WORD_GUARD, n, room, |out, p, len| unsafe { probe_read(bytes.as_ptr(), bytes.len(), out, room, p, len) })
+}
+
+pub fn block_check(n: usize, bytes: &[u8]) -> Told {
+    told(n, |p, len| unsafe { probe_block_check(bytes.as_ptr(), bytes.len(), p, len) })
+}
+
+pub fn stored_volume(n: usize, bytes: &[u8]) -> Told {
+    told(n, |p, len| unsafe { probe_stored_volume(bytes.as_ptr(), bytes.len(), p, len) })
+}
+
+pub fn packed_check(bytes: &[u8]) -> u64 {
+    unsafe { cab_check_blocks(bytes.as_ptr(), bytes.len()) }
+}
+
+pub fn packed_volume(bytes: &[u8]) -> u64 {
+    unsafe { cab_stored_volume(bytes.as_ptr(), bytes.len()) }
 }

@@ -2,6 +2,7 @@
 //! code. Every word of every lent buffer is compared, with guards around it.
 //!
 //!     outside [SEED [CASES]]     prints the seed, a line for each failure, and at last 'N passed, M failed'
+mod blocks;
 mod cells;
 mod link;
 mod lists;
@@ -22,6 +23,7 @@ fn main() {
     lists::all(&mut run);
     sets::all(&mut run);
     moves::all(&mut run);
+    blocks::all(&mut run);
     println!("{} passed, {} failed", run.passed, run.failed);
     if run.failed > 0 || run.passed == 0 {
         std::process::exit(1);

@@ -363,3 +363,105 @@ pub fn metres_of(depth: u32, list: &[u32], d: [f64; 3], s: u32, room: usize) -> 
     }
     shift_of(depth, list, whole, room)
 }
+
+// ---- stored blocks
+
+/// The two sums over the words 0 to 125 of a block.
+pub fn sums(words: &[u32]) -> [u32; 2] {
+    words[..126].iter().fold([1, 0], |[a, b], w| {
+        let a = (a as u64 + *w as u64) as u32;
+        [a, (b as u64 + a as u64) as u32]
+    })
+}
+
+/// The words of a file: a row of 128 for each block.
+pub fn file_words(depth: u32, list: &[u32]) -> Vec<Vec<u32>> {
+    let parts: Vec<&[u32]> = if list.is_empty() { vec![&[]] } else { list.chunks(122).collect() };
+    let n = parts.len() as u32;
+    let block = |(i, codes): (usize, &&[u32])| {
+        let mut words = vec![i as u32, n, depth, codes.len() as u32];
+        words.extend_from_slice(codes);
+        words.resize(126, 0);
+        let check = sums(&words);
+        words.extend_from_slice(&check);
+        words
+    };
+    parts.iter().enumerate().map(block).collect()
+}
+
+pub fn bytes_of(blocks: &[Vec<u32>]) -> Vec<u8> {
+    blocks.iter().flatten().flat_map(|w| w.to_le_bytes()).collect()
+}
+
+/// The blocks of a file, or the place that number 9 names.
+pub fn sound_blocks(bytes: &[u8]) -> Result<Vec<Vec<u32>>, u64> {
+    let n = bytes.len() / 512;
+    if n == 0 || bytes.len() % 512 != 0 {
+        return Err(n as u64);
+    }
+    let word = |b: &[u8]| b.iter().rev().fold(0u32, |x, y| x << 8 | *y as u32);
+    let blocks: Vec<Vec<u32>> = bytes.chunks(512).map(|b| b.chunks(4).map(word).collect()).collect();
+    for (i, b) in blocks.iter().enumerate() {
+        let k = b[3] as usize;
+        let counts = if i + 1 < n { 122..=122 } else { (n > 1) as usize..=122 };
+        let right = b[0] as usize == i
+            && b[1] as usize == n
+            && b[2] <= DEEPEST
+            && b[2] == blocks[0][2]
+            && counts.contains(&k)
+            && b[4 + k..126].iter().all(|w| *w == 0)
+            && b[126..] == sums(b);
+        if !right {
+            return Err(i as u64);
+        }
+    }
+    Ok(blocks)
+}
+
+fn stored_list(blocks: &[Vec<u32>]) -> (u32, Vec<u32>) {
+    (blocks[0][2], blocks.iter().flat_map(|b| b[4..4 + b[3] as usize].to_vec()).collect())
+}
+
+pub fn block_check_of(bytes: &[u8]) -> Answer {
+    match sound_blocks(bytes) {
+        Err(place) => answer(9, place, 0),
+        Ok(blocks) => answer(0, stored_list(&blocks).1.len() as u64, 0),
+    }
+}
+
+pub fn stored_volume_of(bytes: &[u8]) -> Answer {
+    match sound_blocks(bytes) {
+        Err(place) => answer(9, place, 0),
+        Ok(blocks) => {
+            let (depth, list) = stored_list(&blocks);
+            volume_of(depth, &list)
+        }
+    }
+}
+
+pub fn read_of(bytes: &[u8], room: usize) -> (Answer, Vec<u32>) {
+    let blocks = match sound_blocks(bytes) {
+        Err(place) => return (answer(9, place, 0), Vec::new()),
+        Ok(blocks) => blocks,
+    };
+    let (depth, list) = stored_list(&blocks);
+    if let Some(refused) = refusal(depth, &[&list]) {
+        return (refused, Vec::new());
+    }
+    let (mut told, codes) = result(room, list);
+    if told.number == 0 {
+        told.beside[0] = depth as u64;
+    }
+    (told, codes)
+}
+
+pub fn write_of(depth: u32, list: &[u32], room: usize) -> (Answer, Vec<u8>) {
+    if let Some(refused) = refusal(depth, &[list]) {
+        return (refused, Vec::new());
+    }
+    let bytes = bytes_of(&file_words(depth, list));
+    if bytes.len() > room {
+        return (answer(8, bytes.len() as u64, 0), Vec::new());
+    }
+    (answer(0, bytes.len() as u64, 0), bytes)
+}
