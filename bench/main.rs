@@ -42,6 +42,9 @@ fn table() {
     println!("| shape | job | proved, us | plain Rust, us | ratio |\n|---|---|---|---|---|");
     let mut room = vec![0u32; 1 << 20];
     let mut other = vec![0u32; 1 << 20];
+    // 16,384 codes take 135 blocks
+    let mut file = vec![0u8; 135 * 512];
+    let mut copy = file.clone();
     for s in shapes::all() {
         row(&s, "check", 301, || ours::check(DEPTH, &s.first), || plain::check(DEPTH, &s.first));
         row(&s, "volume", 301, || ours::volume(DEPTH, &s.first), || plain::volume(DEPTH, &s.first));
@@ -52,6 +55,9 @@ fn table() {
             let name = format!("move by {d:?}");
             row(&s, &name, 11, || ours::shift(DEPTH, &s.first, d, &mut room), || plain::shift(DEPTH, &s.first, d, &mut other));
         }
+        row(&s, "write", 101, || ours::write(DEPTH, &s.first, &mut file), || plain::write(DEPTH, &s.first, &mut copy));
+        assert_eq!(file, copy, "{} stored", s.name);
+        row(&s, "read", 101, || ours::read(&file, &mut room), || plain::read(&file, &mut other).0);
     }
 }
 

@@ -8,6 +8,8 @@ extern "C" {
     fn probe_join(depth: u32, a: *const u32, a_len: usize, b: *const u32, b_len: usize, out: *mut u32, room: usize, answer: *mut u64, len: usize);
     fn probe_meet(depth: u32, a: *const u32, a_len: usize, b: *const u32, b_len: usize, out: *mut u32, room: usize, answer: *mut u64, len: usize);
     fn probe_less(depth: u32, a: *const u32, a_len: usize, b: *const u32, b_len: usize, out: *mut u32, room: usize, answer: *mut u64, len: usize);
+    fn probe_write(depth: u32, list: *const u32, list_len: usize, bytes: *mut u8, room: usize, answer: *mut u64, len: usize);
+    fn probe_read(bytes: *const u8, bytes_len: usize, out: *mut u32, room: usize, answer: *mut u64, len: usize);
     fn probe_move(depth: u32, list: *const u32, list_len: usize, dx: i32, dy: i32, dz: i32, out: *mut u32, room: usize, answer: *mut u64, len: usize);
 }
 
@@ -37,4 +39,12 @@ pub fn set(op: Op, depth: u32, a: &[u32], b: &[u32], out: &mut [u32]) -> Answer 
 
 pub fn shift(depth: u32, list: &[u32], d: [i32; 3], out: &mut [u32]) -> Answer {
     told(|p, n| unsafe { probe_move(depth, list.as_ptr(), list.len(), d[0], d[1], d[2], out.as_mut_ptr(), out.len(), p, n) })
+}
+
+pub fn write(depth: u32, list: &[u32], bytes: &mut [u8]) -> Answer {
+    told(|p, n| unsafe { probe_write(depth, list.as_ptr(), list.len(), bytes.as_mut_ptr(), bytes.len(), p, n) })
+}
+
+pub fn read(bytes: &[u8], out: &mut [u32]) -> Answer {
+    told(|p, n| unsafe { probe_read(bytes.as_ptr(), bytes.len(), out.as_mut_ptr(), out.len(), p, n) })
 }

@@ -25,9 +25,9 @@ fn start(depth: u32, code: u32) -> u32 {
 }
 
 /// The first fault, or the number of voxels.
-fn judged(depth: u32, list: &[u32]) -> Result<u32, (u32, u64)> {
+fn judged(depth: u32, codes: impl Iterator<Item = u32>) -> Result<u32, (u32, u64)> {
     let (mut last, mut past, mut run, mut sum) = (0, 0, 0, 0);
-    for (i, &code) in list.iter().enumerate() {
+    for (i, code) in codes.enumerate() {
         if !proper(depth, code) {
             return Err((2, i as u64));
         }
@@ -57,7 +57,7 @@ fn refused(depth: u32, lists: &[&[u32]]) -> Option<Answer> {
     if depth > 10 {
         return Some(told(1, 0, 0));
     }
-    lists.iter().enumerate().find_map(|(k, list)| judged(depth, list).err().map(|(number, place)| told(number, place, k as u32 + 1)))
+    lists.iter().enumerate().find_map(|(k, list)| judged(depth, list.iter().copied()).err().map(|(number, place)| told(number, place, k as u32 + 1)))
 }
 
 pub fn check(depth: u32, list: &[u32]) -> Answer {
@@ -68,7 +68,7 @@ pub fn volume(depth: u32, list: &[u32]) -> Answer {
     if depth > 10 {
         return told(1, 0, 0);
     }
-    match judged(depth, list) {
+    match judged(depth, list.iter().copied()) {
         Err((number, place)) => told(number, place, 1),
         Ok(sum) => told(0, sum as u64, 0),
     }
@@ -332,4 +332,80 @@ pub fn shift(depth: u32, list: &[u32], d: [i32; 3], out: &mut [u32]) -> Answer {
         return told(8, need as u64, 0);
     }
     told(0, displaced(depth, list, d, Some(out)).0 as u64, 0)
+}
+
+// ---- stored blocks
+
+pub fn write(depth: u32, list: &[u32], bytes: &mut [u8]) -> Answer {
+    if let Some(r) = refused(depth, &[list]) {
+        return r;
+    }
+    let n = ((list.len() + 121) / 122).max(1);
+    if bytes.len() < 512 * n {
+        return told(8, 512 * n as u64, 0);
+    }
+    for i in 0..n {
+        let codes = &list[(122 * i).min(list.len())..(122 * i + 122).min(list.len())];
+        let (mut a, mut b) = (1u32, 0u32);
+        let block = &mut bytes[512 * i..512 * i + 512];
+        let mut put = |w: usize, x: u32| block[4 * w..4 * w + 4].copy_from_slice(&x.to_le_bytes());
+        for w in 0..126 {
+            let x = match w {
+                0 => i as u32,
+                1 => n as u32,
+                2 => depth,
+                3 => codes.len() as u32,
+                _ => codes.get(w - 4).copied().unwrap_or(0),
+            };
+            a = a.wrapping_add(x);
+            b = b.wrapping_add(a);
+            put(w, x);
+        }
+        put(126, a);
+        put(127, b);
+    }
+    told(0, 512 * n as u64, 0)
+}
+
+fn word(bytes: &[u8], i: usize, w: usize) -> u32 {
+    let p = 512 * i + 4 * w;
+    u32::from_le_bytes([bytes[p], bytes[p + 1], bytes[p + 2], bytes[p + 3]])
+}
+
+fn sound(bytes: &[u8], i: usize, n: usize, depth: u32) -> bool {
+    let k = word(bytes, i, 3) as usize;
+    let right = if i + 1 < n { k == 122 } else { k <= 122 && (k > 0 || n == 1) };
+    if word(bytes, i, 0) as usize != i || word(bytes, i, 1) as usize != n || word(bytes, i, 2) > 10 || word(bytes, i, 2) != depth || !right {
+        return false;
+    }
+    let (mut a, mut b) = (1u32, 0u32);
+    for w in 0..126 {
+        a = a.wrapping_add(word(bytes, i, w));
+        b = b.wrapping_add(a);
+    }
+    (4 + k..126).all(|w| word(bytes, i, w) == 0) && word(bytes, i, 126) == a && word(bytes, i, 127) == b
+}
+
+pub fn read(bytes: &[u8], out: &mut [u32]) -> (Answer, u32) {
+    let n = bytes.len() / 512;
+    if n == 0 || bytes.len() % 512 != 0 {
+        return (told(9, n as u64, 0), 0);
+    }
+    let depth = word(bytes, 0, 2);
+    if let Some(i) = (0..n).find(|i| !sound(bytes, *i, n, depth)) {
+        return (told(9, i as u64, 0), 0);
+    }
+    let k = 122 * (n - 1) + word(bytes, n - 1, 3) as usize;
+    // the codes are judged where they stand, before anything is written
+    let code = |j: usize| word(bytes, j / 122, 4 + j % 122);
+    if let Err((number, place)) = judged(depth, (0..k).map(code)) {
+        return (told(number, place, 1), 0);
+    }
+    if out.len() < k {
+        return (told(8, k as u64, 0), 0);
+    }
+    for (j, place) in out[..k].iter_mut().enumerate() {
+        *place = code(j);
+    }
+    (told(0, k as u64, 0), depth)
 }
