@@ -397,15 +397,15 @@ pub fn read(bytes: &[u8], out: &mut [u32]) -> (Answer, u32) {
     }
     let k = 122 * (n - 1) + word(bytes, n - 1, 3) as usize;
     // the codes are judged where they stand, before anything is written
-    let code = |j: usize| word(bytes, j / 122, 4 + j % 122);
-    if let Err((number, place)) = judged(depth, (0..k).map(code)) {
+    let codes = || (0..n).flat_map(|i| (4..4 + word(bytes, i, 3) as usize).map(move |w| word(bytes, i, w)));
+    if let Err((number, place)) = judged(depth, codes()) {
         return (told(number, place, 1), 0);
     }
     if out.len() < k {
         return (told(8, k as u64, 0), 0);
     }
-    for (j, place) in out[..k].iter_mut().enumerate() {
-        *place = code(j);
+    for (place, code) in out.iter_mut().zip(codes()) {
+        *place = code;
     }
     (told(0, k as u64, 0), depth)
 }
