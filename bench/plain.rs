@@ -367,23 +367,35 @@ pub fn write(depth: u32, list: &[u32], bytes: &mut [u8]) -> Answer {
     told(0, 512 * n as u64, 0)
 }
 
-fn word(bytes: &[u8], i: usize, w: usize) -> u32 {
-    let p = 512 * i + 4 * w;
-    u32::from_le_bytes([bytes[p], bytes[p + 1], bytes[p + 2], bytes[p + 3]])
+/// The words of a block.
+fn words(block: &[u8]) -> [u32; 128] {
+    let mut words = [0; 128];
+    for (word, b) in words.iter_mut().zip(block.chunks_exact(4)) {
+        *word = u32::from_le_bytes([b[0], b[1], b[2], b[3]]);
+    }
+    words
 }
 
-fn sound(bytes: &[u8], i: usize, n: usize, depth: u32) -> bool {
-    let k = word(bytes, i, 3) as usize;
+fn sound(words: &[u32; 128], i: usize, n: usize, depth: u32) -> bool {
+    let k = words[3] as usize;
     let right = if i + 1 < n { k == 122 } else { k <= 122 && (k > 0 || n == 1) };
-    if word(bytes, i, 0) as usize != i || word(bytes, i, 1) as usize != n || word(bytes, i, 2) > 10 || word(bytes, i, 2) != depth || !right {
+    if words[0] as usize != i || words[1] as usize != n || words[2] > 10 || words[2] != depth || !right {
         return false;
     }
     let (mut a, mut b) = (1u32, 0u32);
-    for w in 0..126 {
-        a = a.wrapping_add(word(bytes, i, w));
+    for w in &words[..126] {
+        a = a.wrapping_add(*w);
         b = b.wrapping_add(a);
     }
-    (4 + k..126).all(|w| word(bytes, i, w) == 0) && word(bytes, i, 126) == a && word(bytes, i, 127) == b
+    words[4 + k..126].iter().all(|w| *w == 0) && words[126] == a && words[127] == b
+}
+
+/// The codes of a sound file, block by block.
+fn codes(bytes: &[u8]) -> impl Iterator<Item = u32> + '_ {
+    bytes.chunks_exact(512).flat_map(|block| {
+        let words = words(block);
+        (0..words[3] as usize).map(move |j| words[4 + j])
+    })
 }
 
 pub fn read(bytes: &[u8], out: &mut [u32]) -> (Answer, u32) {
@@ -391,20 +403,19 @@ pub fn read(bytes: &[u8], out: &mut [u32]) -> (Answer, u32) {
     if n == 0 || bytes.len() % 512 != 0 {
         return (told(9, n as u64, 0), 0);
     }
-    let depth = word(bytes, 0, 2);
-    if let Some(i) = (0..n).find(|i| !sound(bytes, *i, n, depth)) {
+    let depth = words(bytes)[2];
+    if let Some(i) = bytes.chunks_exact(512).enumerate().position(|(i, block)| !sound(&words(block), i, n, depth)) {
         return (told(9, i as u64, 0), 0);
     }
-    let k = 122 * (n - 1) + word(bytes, n - 1, 3) as usize;
+    let k = 122 * (n - 1) + words(&bytes[512 * (n - 1)..])[3] as usize;
     // the codes are judged where they stand, before anything is written
-    let codes = || (0..n).flat_map(|i| (4..4 + word(bytes, i, 3) as usize).map(move |w| word(bytes, i, w)));
-    if let Err((number, place)) = judged(depth, codes()) {
+    if let Err((number, place)) = judged(depth, codes(bytes)) {
         return (told(number, place, 1), 0);
     }
     if out.len() < k {
         return (told(8, k as u64, 0), 0);
     }
-    for (place, code) in out.iter_mut().zip(codes()) {
+    for (place, code) in out.iter_mut().zip(codes(bytes)) {
         *place = code;
     }
     (told(0, k as u64, 0), depth)
