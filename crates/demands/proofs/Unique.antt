@@ -20,6 +20,9 @@ use Rattle.sets.proofs.SetLaws.{one-set}
 use Rattle.metres.specs.declared.Move.{Move}
 use Rattle.moves.specs.Moves.{MoveOf}
 use Rattle.moves.proofs.MoveLaws.{one-move}
+use Rattle.blocks.specs.Calls.{BlockCheckOf, StoredVolumeOf, ReadOf, WriteOf}
+use Rattle.blocks.specs.declared.Reading.{Reading}
+use Rattle.blocks.proofs.CallLaws.{one-check-blocks, one-stored-volume, one-read, one-write}
 
 -- an answer and a buffer afterwards, of which one fits at most
 abbrev pub OnlyOne : (Answer → List ℕ → Type 0) → Type 0
@@ -71,3 +74,17 @@ only-less = one-set Less
 
 pub only-move : (D : ℕ) (l : List ℕ) (m : Move) (o : List ℕ) → OnlyOne (MoveOf D l m o)
 only-move = one-move
+
+-- ---- blocks
+
+pub only-block-check : (b : List ℕ) → One (BlockCheckOf b)
+only-block-check = one-check-blocks
+
+pub only-stored-volume : (b : List ℕ) → One (StoredVolumeOf b)
+only-stored-volume = one-stored-volume
+
+pub only-read : (b o : List ℕ) → One (λ (t : Reading × List ℕ). ReadOf b o (t .0) (t .1))
+only-read = one-read
+
+pub only-write : (D : ℕ) (l o : List ℕ) → OnlyOne (WriteOf D l o)
+only-write = one-write
