@@ -11,6 +11,20 @@ use Rattle.cells.proofs.Directions.{bad-x, bad-y, bad-z, numbered}
 use Rattle.cells.proofs.neighbours.direction.Statement.{statement}
 use Rattle.cells.proofs.neighbours.direction.Tie as tie
 
+-- the three digits
+module _ (c : tie.After-digit3) where
+  abbrev s : tie.Start
+  s = c .before .before .before
+
+  at-x : c .before .before .digit .result ≡ digitOf (s .args .dx)
+  at-x = c .before .before .digit .ensures ∙ ap digitOf (toZ-ofZ w32 (s .args .dx) (s .fits .dx))
+
+  at-y : c .before .digit2 .result ≡ digitOf (s .args .dy)
+  at-y = c .before .digit2 .ensures ∙ ap digitOf (toZ-ofZ w32 (s .args .dy) (s .fits .dy))
+
+  at-z : c .digit3 .result ≡ digitOf (s .args .dz)
+  at-z = c .digit3 .ensures ∙ ap digitOf (toZ-ofZ w32 (s .args .dz) (s .fits .dz))
+
 digit-requires : tie.Need-digit-requires
 digit-requires c κs = search needs
 
@@ -22,30 +36,21 @@ digit-requires-3 c κs = search needs
 
 returns : tie.Need-returns
 returns c =
-    let s = c .before .before .before .before in
-    let a = s .args in
-    let x : c .before .before .before .digit .result ≡ digitOf (a .dx) = c .before .before .before .digit .ensures ∙ ap digitOf (toZ-ofZ w32 (a .dx) (s .fits .dx)) in
-    let y : c .before .before .digit2 .result ≡ digitOf (a .dy) = c .before .before .digit2 .ensures ∙ ap digitOf (toZ-ofZ w32 (a .dy) (s .fits .dy)) in
-    let z : c .before .digit3 .result ≡ digitOf (a .dz) = c .before .digit3 .ensures ∙ ap digitOf (toZ-ofZ w32 (a .dz) (s .fits .dz)) in
-    bad-x (a .dx) (a .dy) (a .dz) (omega arith)
+    let q = c .before in
+    let a = s q .args in
+    bad-x (a .dx) (a .dy) (a .dz) (omega (arith, at-x q))
 
 returns-2 : tie.Need-returns-2
 returns-2 c =
-    let s = c .before .before .before .before .before in
-    let a = s .args in
-    let x : c .before .before .before .before .digit .result ≡ digitOf (a .dx) = c .before .before .before .before .digit .ensures ∙ ap digitOf (toZ-ofZ w32 (a .dx) (s .fits .dx)) in
-    let y : c .before .before .before .digit2 .result ≡ digitOf (a .dy) = c .before .before .before .digit2 .ensures ∙ ap digitOf (toZ-ofZ w32 (a .dy) (s .fits .dy)) in
-    let z : c .before .before .digit3 .result ≡ digitOf (a .dz) = c .before .before .digit3 .ensures ∙ ap digitOf (toZ-ofZ w32 (a .dz) (s .fits .dz)) in
-    bad-y (a .dx) (a .dy) (a .dz) (omega arith) (omega arith)
+    let q = c .before .before in
+    let a = s q .args in
+    bad-y (a .dx) (a .dy) (a .dz) (omega (arith, at-x q)) (omega (arith, at-y q))
 
 returns-3 : tie.Need-returns-3
 returns-3 c =
-    let s = c .before .before .before .before .before .before in
-    let a = s .args in
-    let x : c .before .before .before .before .before .digit .result ≡ digitOf (a .dx) = c .before .before .before .before .before .digit .ensures ∙ ap digitOf (toZ-ofZ w32 (a .dx) (s .fits .dx)) in
-    let y : c .before .before .before .before .digit2 .result ≡ digitOf (a .dy) = c .before .before .before .before .digit2 .ensures ∙ ap digitOf (toZ-ofZ w32 (a .dy) (s .fits .dy)) in
-    let z : c .before .before .before .digit3 .result ≡ digitOf (a .dz) = c .before .before .before .digit3 .ensures ∙ ap digitOf (toZ-ofZ w32 (a .dz) (s .fits .dz)) in
-    bad-z (a .dx) (a .dy) (a .dz) (omega arith) (omega arith) (omega arith)
+    let q = c .before .before .before in
+    let a = s q .args in
+    bad-z (a .dx) (a .dy) (a .dz) (omega (arith, at-x q)) (omega (arith, at-y q)) (omega (arith, at-z q))
 
 mul-result : tie.Need-mul-result
 mul-result c = search needs
@@ -61,12 +66,9 @@ add-result-2 c = search needs
 
 returns-4 : tie.Need-returns-4
 returns-4 c =
-    let s = c .before .before .before .before .before .before in
-    let a = s .args in
-    let x : c .before .before .before .before .before .digit .result ≡ digitOf (a .dx) = c .before .before .before .before .before .digit .ensures ∙ ap digitOf (toZ-ofZ w32 (a .dx) (s .fits .dx)) in
-    let y : c .before .before .before .before .digit2 .result ≡ digitOf (a .dy) = c .before .before .before .before .digit2 .ensures ∙ ap digitOf (toZ-ofZ w32 (a .dy) (s .fits .dy)) in
-    let z : c .before .before .before .digit3 .result ≡ digitOf (a .dz) = c .before .before .before .digit3 .ensures ∙ ap digitOf (toZ-ofZ w32 (a .dz) (s .fits .dz)) in
-    subst (λ (d : ℕ). Direction (a .dx) (a .dy) (a .dz) d) (omega arith) (numbered (a .dx) (a .dy) (a .dz) (omega arith) (omega arith) (omega arith))
+    let q = c .before .before .before in
+    let a = s q .args in
+    subst (λ (d : ℕ). Direction (a .dx) (a .dy) (a .dz) d) (omega (arith, at-x q, at-y q, at-z q)) (numbered (a .dx) (a .dy) (a .dz) (omega (arith, at-x q)) (omega (arith, at-y q)) (omega (arith, at-z q)))
 
 pub direction-spec : {M : Type 1} → statement M
 direction-spec =

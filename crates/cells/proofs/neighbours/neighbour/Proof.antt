@@ -3,7 +3,7 @@
 use mathlib.Core.Path.{_≡_, refl, sym, ap, _∙_, subst}
 use mathlib.Core.Logic.{inl, inr}
 use mathlib.Core.Bool.{true}
-use Prim.Native.Nat.{ℕ, _+_, _*_, _%_, _^_, _≤_}
+use Prim.Native.Nat.{ℕ, _+_, _*_, _%_, _^_, _≤_, _<_}
 use native.Mathlib.Nat.{mul-le-mul-right}
 use native.Mathlib.Omega.{arith}
 use borrow.Author.Needs.{needs}
@@ -116,29 +116,24 @@ returns-4 c =
 rule-requires : tie.Need-rule-requires Inv-loop μ-loop
 rule-requires c κs = (omega arith, c .before .before .loop .inv .small)
 
-mul-done : tie.Need-mul-done Inv-loop μ-loop
-mul-done c =
+-- a label more fits the word
+next-fits : (c : tie.After-rule Inv-loop μ-loop)
+    → (c .before .before .before .loop .done + c .rule .result % 8 * c .before .before .before .loop .weight < 2 ^ 32) × (c .before .before .before .loop .weight * 8 < 2 ^ 32)
+next-fits c =
     let l = c .before .before .before in
     let q = l .before .before in
     let r = room (k q) (i q) (d q) _ _ _ _ (l .loop .inv) (c .before .if4 .left) in
     let w : c .rule .result % 8 * l .loop .weight ≤ 7 * l .loop .weight = mul-le-mul-right (l .loop .weight) (omega arith) in
     omega (arith, small q, l .loop .inv .low)
+
+mul-done : tie.Need-mul-done Inv-loop μ-loop
+mul-done c = omega (arith, next-fits c)
 
 add-done : tie.Need-add-done Inv-loop μ-loop
-add-done c =
-    let l = c .before .before .before in
-    let q = l .before .before in
-    let r = room (k q) (i q) (d q) _ _ _ _ (l .loop .inv) (c .before .if4 .left) in
-    let w : c .rule .result % 8 * l .loop .weight ≤ 7 * l .loop .weight = mul-le-mul-right (l .loop .weight) (omega arith) in
-    omega (arith, small q, l .loop .inv .low)
+add-done c = omega (arith, next-fits c)
 
 mul-weight : tie.Need-mul-weight Inv-loop μ-loop
-mul-weight c =
-    let l = c .before .before .before in
-    let q = l .before .before in
-    let r = room (k q) (i q) (d q) _ _ _ _ (l .loop .inv) (c .before .if4 .left) in
-    let w : c .rule .result % 8 * l .loop .weight ≤ 7 * l .loop .weight = mul-le-mul-right (l .loop .weight) (omega arith) in
-    omega (arith, small q, l .loop .inv .low)
+mul-weight c = omega (arith, next-fits c)
 
 loop-less : tie.Need-loop-less Inv-loop μ-loop
 loop-less c = omega arith
@@ -158,23 +153,21 @@ worked l h =
     let z : l .loop .carry ≡ 0 = omega arith in
     finished (k q) (i q) (d q) _ _ _ (subst (λ (n : ℕ). Progress (k q) (i q) (d q) n (l .loop .rest) (l .loop .done) (l .loop .weight)) z (l .loop .inv))
 
-mul-success : tie.Need-mul-success Inv-loop μ-loop
-mul-success c =
+-- and the address fits the word
+address-fits : (c : tie.After-loop Inv-loop μ-loop) → c .before .loop .rest * c .before .loop .weight + c .before .loop .done < 2 ^ 32
+address-fits c =
     let l = c .before in
     let q = l .before .before in
     omega (arith, worked l (c .loop-test .left), small q, stepped-lt (k q) (i q) (d q))
+
+mul-success : tie.Need-mul-success Inv-loop μ-loop
+mul-success c = omega (arith, address-fits c)
 
 add-success : tie.Need-add-success Inv-loop μ-loop
-add-success c =
-    let l = c .before in
-    let q = l .before .before in
-    omega (arith, worked l (c .loop-test .left), small q, stepped-lt (k q) (i q) (d q))
+add-success c = omega (arith, address-fits c)
 
 cast-success : tie.Need-cast-success Inv-loop μ-loop
-cast-success c =
-    let l = c .before in
-    let q = l .before .before in
-    omega (arith, worked l (c .loop-test .left), small q, stepped-lt (k q) (i q) (d q))
+cast-success c = omega (arith, address-fits c)
 
 success-requires : tie.Need-success-requires Inv-loop μ-loop
 success-requires c κs = search needs
