@@ -74,7 +74,7 @@ module _ (b : List ℕ) (r : Answer) (d : JudgedOf b r) where
 -- ---- no second answer
 
 -- only one thing equals a
-one-equal : {R : Type 0} {a : R} → One (λ (r : R). r ≡ a)
+pub one-equal : {R : Type 0} {a : R} → One (λ (r : R). r ≡ a)
 one-equal r s e f = e ∙ sym f
 
 module _ (b : List ℕ) where

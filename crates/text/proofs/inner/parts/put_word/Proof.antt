@@ -1,0 +1,80 @@
+-- `text::inner::parts::put_word` meets its contract. The loop's invariant: the first i bytes of the word are put. Assumes nothing.
+use mathlib.Core.Path.{_≡_, refl, sym, ap, _∙_}
+use mathlib.Core.List.{List, [], _∷_, _++_}
+use Prim.Native.Nat.{ℕ, suc, _+_, _-_, _≤_, _<_}
+use native.Mathlib.Numerals.{add-one}
+use native.Mathlib.Omega.{arith}
+use borrow.Author.Needs.{needs}
+use lib.ListN.{length, getD, take}
+use lib.Seq.{take-suc, take-all, length-take-le}
+use Rattle.text.specs.Inner.{Put}
+use Rattle.text.proofs.Puts.{put-none, put-append, put-length, put-as}
+use Rattle.text.proofs.inner.parts.put_word.Statement.{statement}
+use Rattle.text.proofs.inner.parts.put_word.Tie as tie
+
+abbrev Inv-loop : tie.InvT-loop
+Inv-loop word bytes₀ at write place₀ i₀ bytes place i = (i ≤ length word) × Put write bytes₀ at (take i word) bytes place
+
+abbrev μ-loop : tie.MeasureT-loop
+μ-loop word bytes₀ at write place₀ i₀ bytes place i = length word - i
+
+loop-holds : tie.Need-loop-holds Inv-loop μ-loop
+loop-holds c = (search needs, put-none _ _ _)
+
+shared-slice-read-put : tie.Need-shared-slice-read-put Inv-loop μ-loop
+shared-slice-read-put c = search needs
+
+-- ---- the loop's head
+
+module _ (c : tie.At-loop Inv-loop μ-loop) where
+  abbrev s : tie.Start Inv-loop μ-loop
+  s = c .before .before .before
+
+  -- the place after the bytes put
+  is-place : c .loop .place ≡ s .args .at + c .loop .i
+  is-place = omega (arith, c .loop .inv .1 .place, length-take-le (c .loop .i) (s .args .word .now) (c .loop .inv .0))
+
+put-requires : tie.Need-put-requires Inv-loop μ-loop
+put-requires c κs = let h = c .before .before .before in omega (arith, is-place h, s h .pre, c .before .before .loop-test .taken)
+
+add-i : tie.Need-add-i Inv-loop μ-loop
+add-i c = search needs
+
+loop-less : tie.Need-loop-less Inv-loop μ-loop
+loop-less c = search needs
+
+loop-again : tie.Need-loop-again Inv-loop μ-loop
+loop-again c =
+    let p = c .before .before in
+    let i = p .before .before .before in
+    let h = i .before in
+    let a = s h .args in
+    let l = h .loop in
+    let e : take (l .i) (a .word .now) ++ (getD (a .word .now) (l .i) 0 ∷ []) ≡ take (l .i + 1) (a .word .now) = sym (take-suc (a .word .now) (l .i) 0 (i .loop-test .taken)) ∙ ap (λ (n : ℕ). take n (a .word .now)) (sym (add-one (l .i))) in (
+      omega (arith, i .loop-test .taken),
+      put-as e (put-append (a .write) (a .bytes .now) (a .at) (take (l .i) (a .word .now)) (l .bytes) (l .place) (l .inv .1) (getD (a .word .now) (l .i) 0 ∷ []) _ _ (p .put .ensures)),
+    )
+
+same-length : tie.Need-same-length Inv-loop μ-loop
+same-length c = let h = c .before in let a = s h .args in put-length (a .write) (a .bytes .now) (a .at) (take (h .loop .i) (a .word .now)) (h .loop .bytes) (h .loop .place) (h .loop .inv .1)
+
+returns : tie.Need-returns Inv-loop μ-loop
+returns c =
+    let h = c .before in
+    let a = s h .args in
+    put-as (take-all (h .loop .i) (a .word .now) (c .loop-test .left)) (h .loop .inv .1)
+
+pub put-word-spec : {M : Type 1} → statement M
+put-word-spec =
+    tie.close
+    (tie.spec
+    Inv-loop
+    μ-loop
+    loop-holds
+    shared-slice-read-put
+    put-requires
+    add-i
+    loop-less
+    loop-again
+    same-length
+    returns)

@@ -1,0 +1,25 @@
+-- INNER: for the contracts of the functions that put text into a buffer. Definitions only.
+use mathlib.Core.Path.{_≡_}
+use mathlib.Core.Bool.{Bool}
+use mathlib.Core.List.{List, [], _∷_, _++_}
+use Prim.Native.Nat.{ℕ, _+_, _^_, _<_}
+use lib.ListN.{length}
+use Rattle.emit.specs.Inner.{puts}
+use Rattle.text.specs.Text.{decimal, depthWord, leavesWord, volumeWord}
+
+-- the text l is put over the bytes o from place `at` on, where it is to be written, which leaves `after`; r is the place after it
+pub record Put (write : Bool) (o : List ℕ) (at : ℕ) (l after : List ℕ) (r : ℕ) : Type 0 where
+  pub bytes : after ≡ puts write o at l
+  pub place : r ≡ at + length l
+
+-- the code c is r followed by k labels, i in base 8
+abbrev pub Labelled : ℕ → ℕ → ℕ → Type 0
+Labelled c k i = (c ≡ 8 ^ k + i) × (i < 8 ^ k)
+
+-- a word and a number
+abbrev pub field : List ℕ → ℕ → List ℕ
+field w n = w ++ decimal n
+
+-- the first line: depth D, n leaves, v black voxels
+abbrev pub headLine : ℕ → ℕ → ℕ → List ℕ
+headLine D n v = ((field depthWord D ++ field leavesWord n) ++ field volumeWord v) ++ (10 ∷ [])

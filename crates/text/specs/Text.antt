@@ -1,0 +1,75 @@
+-- The listing of a record: document 01, "Listing program". Bytes are ASCII. Definitions only.
+use mathlib.Core.Path.{_≡_}
+use mathlib.Core.Bool.{true, false}
+use mathlib.Core.List.{List, [], _∷_, _++_}
+use Prim.Native.Nat.{ℕ, zero, suc, _+_, _/_, _%_, _^_}
+use lib.Dec.{ltb}
+use lib.ListN.{length, drop}
+use Rattle.cells.specs.Answer.{given, Decided, keeping, TooDeep}
+use Rattle.cells.specs.Cell.{level, index}
+use Rattle.cells.specs.declared.Answer.{Answer}
+use Rattle.records.specs.Record.{black}
+use Rattle.records.specs.Count.{count}
+use Rattle.records.specs.Fault.{Faulty}
+use Rattle.blocks.specs.Calls.{TooShort}
+
+-- the digits of n in base b, at most f + 1 of them, no zeros in front
+unfoldable pub digits : ℕ → ℕ → ℕ → List ℕ
+digits b zero n = (48 + n % b) ∷ []
+digits b (suc f) n = elim (ltb n b) [ true ↦ (48 + n) ∷ [] | false ↦ digits b f (n / b) ++ ((48 + n % b) ∷ []) ]
+
+-- a number below 10 ^ 20 in decimal
+abbrev pub decimal : ℕ → List ℕ
+decimal n = digits 10 19 n
+
+-- the last k digits of i in base 8: k labels, outermost first
+unfoldable pub labels : ℕ → ℕ → List ℕ
+labels zero i = []
+labels (suc k) i = labels k (i / 8) ++ ((48 + i % 8) ∷ [])
+
+-- a path and the line's end: r, then the labels
+abbrev pub pathLine : ℕ → ℕ → List ℕ
+pathLine D c = 114 ∷ (labels (level D c) (index D c) ++ (10 ∷ []))
+
+-- one path a line, in list order
+unfoldable pub pathLines : ℕ → List ℕ → List ℕ
+pathLines D [] = []
+pathLines D (c ∷ l) = pathLine D c ++ pathLines D l
+
+-- "depth ", " leaves ", " volume "
+abbrev pub depthWord : List ℕ
+depthWord = 100 ∷ 101 ∷ 112 ∷ 116 ∷ 104 ∷ 32 ∷ []
+
+abbrev pub leavesWord : List ℕ
+leavesWord = 32 ∷ 108 ∷ 101 ∷ 97 ∷ 118 ∷ 101 ∷ 115 ∷ 32 ∷ []
+
+abbrev pub volumeWord : List ℕ
+volumeWord = 32 ∷ 118 ∷ 111 ∷ 108 ∷ 117 ∷ 109 ∷ 101 ∷ 32 ∷ []
+
+-- depth, leaf count and black voxels on the first line, then the paths
+unfoldable pub listing : ℕ → List ℕ → ℕ → List ℕ
+listing D l v = depthWord ++ (decimal D ++ (leavesWord ++ (decimal (length l) ++ (volumeWord ++ (decimal v ++ (10 ∷ pathLines D l))))))
+
+-- the listing of a good list
+abbrev pub textOf : ℕ → List ℕ → List ℕ
+textOf D l = listing D l (count (black D l) (8 ^ D))
+
+-- THE CALL list_text, of the list l to the bytes o: the answer r and the bytes o' afterwards
+abbrev pub TextOf : ℕ → List ℕ → List ℕ → Answer → List ℕ → Type 0
+TextOf D l o r o' =
+    Decided (keeping o) (TooDeep D ∷ Faulty D l 1 ∷ TooShort (length (textOf D l)) o ∷ [])
+    (λ t. t ≡ (given (length (textOf D l)), textOf D l ++ drop (length (textOf D l)) o)) (r, o')
+
+-- "refused "
+abbrev pub refusedWord : List ℕ
+refusedWord = 114 ∷ 101 ∷ 102 ∷ 117 ∷ 115 ∷ 101 ∷ 100 ∷ 32 ∷ []
+
+-- what is told of a file that is refused: number n and place p
+unfoldable pub refusedText : ℕ → ℕ → List ℕ
+refusedText n p = refusedWord ++ (decimal n ++ (32 ∷ (decimal p ++ (10 ∷ []))))
+
+-- THE CALL refused_text, of number n and place p to the bytes o: the answer r and the bytes o' afterwards
+abbrev pub RefusedOf : ℕ → ℕ → List ℕ → Answer → List ℕ → Type 0
+RefusedOf n p o r o' =
+    Decided (keeping o) (TooShort (length (refusedText n p)) o ∷ [])
+    (λ t. t ≡ (given (length (refusedText n p)), refusedText n p ++ drop (length (refusedText n p)) o)) (r, o')

@@ -1,0 +1,75 @@
+// INNER: the lines of a listing, and the line of a refusal.
+use crate::inner::parts::put;
+use crate::inner::parts::put_decimal;
+use crate::inner::parts::put_labels;
+use crate::inner::parts::put_word;
+ghost use mathlib.Core.Path.{_≡_};
+ghost use mathlib.Core.Bool.{true};
+ghost use Prim.Native.Nat.{ℕ, _+_, _*_, _≤_, _<_, _^_};
+ghost use lib.ListN.{length};
+ghost use Rattle.cells.specs.Answer.{deepest};
+ghost use Rattle.cells.specs.Cell.{proper};
+ghost use Rattle.records.specs.Record.{Ordered};
+ghost use Rattle.text.specs.Text.{pathLine, pathLines, listing, refusedText};
+ghost use Rattle.text.specs.Inner.{Put, field, headLine};
+
+// The path of a code.
+fn put_path(code: u32, bytes: &mut [u8], at: usize, write: bool) -> usize
+    requires { ⌜ ((D : ℕ) × (D ≤ deepest) × (proper D code ≡ true) × (at + 12 < 2 ^ 64)) ⌝ }
+    ensures { λ r. ⌜ ((D : ℕ) → proper D code ≡ true → Put write (now (bytes .entry)) at (pathLine D code) (now (bytes .exit)) r) ⌝ }
+{
+    let labels = put(114, bytes, at, write);
+    let end = put_labels(code, bytes, labels, write);
+    put(10, bytes, end, write)
+}
+
+// The paths of a list, one a line.
+fn put_paths(list: &[u32], bytes: &mut [u8], at: usize, write: bool) -> usize
+    requires { ⌜ ((D : ℕ) × (D ≤ deepest) × Ordered D 0 (now list) × (at + 12 * length (now list) < 2 ^ 64)) ⌝ }
+    ensures { λ r. ⌜ ((D : ℕ) → D ≤ deepest → Ordered D 0 (now (list .entry)) → Put write (now (bytes .entry)) at (pathLines D (now (list .entry))) (now (bytes .exit)) r) ⌝ }
+{
+    let mut place = at;
+    let mut i: usize = 0;
+    while i < list.len() {
+        place = put_path(list[i], bytes, place, write);
+        i += 1;
+    }
+    place
+}
+
+// A word and a number.
+fn put_field(word: &[u8], n: u64, bytes: &mut [u8], at: usize, write: bool) -> usize
+    requires { ⌜ at + length (now word) + 20 < 2 ^ 64 ⌝ }
+    ensures { λ r. ⌜ Put write (now (bytes .entry)) at (field (now (word .entry)) n) (now (bytes .exit)) r ⌝ }
+{
+    let place = put_word(word, bytes, at, write);
+    put_decimal(n, bytes, place, write)
+}
+
+// The first line: depth, leaf count and black voxels.
+fn put_head(depth: u32, leaves: u64, voxels: u64, bytes: &mut [u8], write: bool) -> usize
+    ensures { λ r. ⌜ Put write (now (bytes .entry)) 0 (headLine depth leaves voxels) (now (bytes .exit)) r ⌝ }
+{
+    let a = put_field(b"depth ", depth as u64, bytes, 0, write);
+    let b = put_field(b" leaves ", leaves, bytes, a, write);
+    let c = put_field(b" volume ", voxels, bytes, b, write);
+    put(10, bytes, c, write)
+}
+
+// The whole listing.
+pub fn put_listing(depth: u32, list: &[u32], voxels: u64, bytes: &mut [u8], write: bool) -> usize
+    requires { ⌜ (depth ≤ deepest) × Ordered depth 0 (now list) × (length (now list) ≤ 8 ^ depth) ⌝ }
+    ensures { λ r. ⌜ Put write (now (bytes .entry)) 0 (listing depth (now (list .entry)) voxels) (now (bytes .exit)) r ⌝ }
+{
+    let at = put_head(depth, list.len() as u64, voxels, bytes, write);
+    put_paths(list, bytes, at, write)
+}
+
+// The line of a refusal.
+pub fn put_refused(number: u32, place: u64, bytes: &mut [u8], write: bool) -> usize
+    ensures { λ r. ⌜ Put write (now (bytes .entry)) 0 (refusedText number place) (now (bytes .exit)) r ⌝ }
+{
+    let a = put_field(b"refused ", number as u64, bytes, 0, write);
+    let b = put_field(b" ", place, bytes, a, write);
+    put(10, bytes, b, write)
+}
