@@ -5,6 +5,7 @@
 mod blocks;
 mod cells;
 mod link;
+mod listing;
 mod lists;
 mod model;
 mod moves;
@@ -24,6 +25,7 @@ fn main() {
     sets::all(&mut run);
     moves::all(&mut run);
     blocks::all(&mut run);
+    listing::all(&mut run);
     println!("{} passed, {} failed", run.passed, run.failed);
     if run.failed > 0 || run.passed == 0 {
         std::process::exit(1);

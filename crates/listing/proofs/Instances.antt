@@ -1,0 +1,44 @@
+-- A text that is printed for a file, and one that is not. Assumes nothing.
+use mathlib.Core.Path.{_≡_, refl, sym, ap, ap₂, _∙_}
+use mathlib.Core.Logic.{inl, inr}
+use mathlib.Core.List.{List, [], _∷_}
+use Prim.Native.Nat.{ℕ}
+use native.Mathlib.Omega.{arith}
+use lib.ListN.{getD}
+use Rattle.cells.specs.Answer.{given, deepest}
+use Rattle.cells.proofs.Bools.{clash}
+use Rattle.cells.proofs.Decisions.{passes}
+use Rattle.records.specs.Record.{Good}
+use Rattle.records.proofs.CallLaws.{checked}
+use Rattle.records.proofs.Instances.{check-holds}
+use Rattle.blocks.specs.Block.{blocks, whole, sound, wrongAt}
+use Rattle.blocks.specs.File.{fileOf}
+use Rattle.blocks.proofs.RoundTrip.{Storable, good-storable, file-sound, file-depth, file-codes}
+use Rattle.blocks.proofs.Theorems.{no-fault}
+use Rattle.text.specs.Text.{digits, textOf, refusedText}
+use Rattle.text.proofs.Instances.{printed, text-is}
+use Rattle.listing.specs.Listing.{Printed}
+use Rattle.listing.proofs.Pages.{one-printed}
+
+abbrev one : List ℕ
+one = 559 ∷ []
+
+good : Good 3 one
+good = checked 3 one (given 1) check-holds refl .good
+
+storable : Storable 3 one
+storable = good-storable 3 one (omega arith) good
+
+-- document 01's two lines
+pub listing-holds : Printed (fileOf 3 one) printed
+listing-holds =
+    rw (file-depth 3 one storable, file-codes 3 one storable) (inr (passes (clash (file-sound 3 one storable)), inr (passes (no-fault 3 one good), sym text-is)))
+
+-- no byte at all: "refused 9 0"
+pub listing-refuses : Printed [] (refusedText 9 0)
+unfolding blocks whole sound wrongAt
+listing-refuses = inl (_, (refl, refl), refl)
+
+pub listing-fails : Printed [] [] → ⊥
+unfolding digits refusedText
+listing-fails h = let e : _≡_ {A = ℕ} 0 114 = ap (λ (l : List ℕ). getD l 0 0) (one-printed [] [] (refusedText 9 0) h listing-refuses) in omega arith

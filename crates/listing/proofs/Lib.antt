@@ -1,0 +1,3 @@
+-- Why the listing's buffers always suffice; no second text; instances.
+pub mod Pages
+pub mod Instances

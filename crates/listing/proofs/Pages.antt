@@ -1,0 +1,69 @@
+-- Why the listing's buffers always suffice, and what `read`, `list_text` and `refused_text` then give; and no second text fits a file. Assumes nothing.
+use mathlib.Core.Path.{_≡_, refl, sym, ap, _∙_}
+use mathlib.Core.Bool.{true}
+use mathlib.Core.List.{List, [], _∷_, _++_}
+use mathlib.Core.Logic.{inl, inr}
+use Prim.Native.Nat.{ℕ, _+_, _*_, _^_, _≤_, _<_}
+use native.Mathlib.Omega.{arith}
+use lib.ListN.{length, drop, length-append}
+use Rattle.cells.specs.Answer.{given, deepest}
+use Rattle.cells.specs.declared.Answer.{Answer}
+use Rattle.cells.proofs.Decisions.{One, one-refuses, one-decided}
+use Rattle.records.specs.Record.{black, Good}
+use Rattle.records.specs.Count.{count}
+use Rattle.records.specs.Fault.{Faulty}
+use Rattle.blocks.specs.Block.{sound, depthOf, leaves, codes}
+use Rattle.blocks.specs.Calls.{Unsound, ReadOf}
+use Rattle.blocks.specs.declared.Reading.{Reading}
+use Rattle.blocks.proofs.Sound.{all-blocks, leaves-most}
+use Rattle.blocks.proofs.CallLaws.{not-unsound, one-equal}
+use Rattle.blocks.proofs.Theorems.{no-fault}
+use Rattle.text.specs.Text.{pathLines, textOf, TextOf, refusedText, RefusedOf}
+use Rattle.text.specs.Inner.{headLine}
+use Rattle.text.proofs.Digits.{paths-length, listing-lines, head-length, refused-length}
+use Rattle.listing.specs.Listing.{longest, refusedLine, Printed, Page}
+
+-- ---- room
+
+-- 128 blocks
+pub few-codes : (b : List ℕ) → sound b ≡ true → length b ≤ longest → leaves b ≤ 15616
+few-codes b s h = omega (arith, leaves-most b s, all-blocks b s)
+
+pub text-length : (D : ℕ) (l : List ℕ) → D ≤ deepest → length (textOf D l) ≤ 83 + 12 * length l
+text-length D l h =
+    let v = count (black D l) (8 ^ D) in
+    omega (arith, ap length (listing-lines D l v), length-append (headLine D (length l) v) (pathLines D l), head-length D (length l) v, paths-length D l h)
+
+-- ---- the calls, where there is room
+
+-- a refusal of the reader is never for room
+pub refused-printed : (b o : List ℕ) (r : Reading) (o' : List ℕ) → ReadOf b o r o' → (r .answer .number ≡ 0 → ⊥) → length b ≤ longest → 15616 ≤ length o → Printed b (refusedLine (r .answer))
+refused-printed b o r o' (inl (a, t, e)) some h room = inl (a, t, ap (λ (x : Reading × List ℕ). refusedLine (x .0 .answer)) e)
+refused-printed b o r o' (inr (p, inl (a, t, e))) some h room = inr (p, inl (a, t, ap (λ (x : Reading × List ℕ). refusedLine (x .0 .answer)) e))
+refused-printed b o r o' (inr (p, inr (q, inl (a, (short, _), e)))) some h room =
+    absurd (omega (arith, few-codes b (not-unsound (sound b) (λ x. p _ (x, refl))) h))
+refused-printed b o r o' (inr (p, inr (q, inr (_, e)))) some h room = absurd (some (ap (λ (x : Reading × List ℕ). x .0 .answer .number) e))
+
+-- a text stands at the front
+pub record Front (t o : List ℕ) (r : Answer) (after : List ℕ) : Type 0 where
+  pub is-answer : r ≡ given (length t)
+  pub is-after : after ≡ t ++ drop (length t) o
+
+pub text-front : (D : ℕ) (l o : List ℕ) (r : Answer) (o' : List ℕ) → TextOf D l o r o' → D ≤ deepest → Good D l → length (textOf D l) ≤ length o → Front (textOf D l) o r o'
+text-front D l o r o' (inl (a, (deep, _), e)) h g room = absurd (omega arith)
+text-front D l o r o' (inr (p, inl (a, (bad, _), e))) h g room = absurd (no-fault D l g bad)
+text-front D l o r o' (inr (p, inr (q, inl (a, (short, _), e)))) h g room = absurd (omega arith)
+text-front D l o r o' (inr (p, inr (q, inr (_, e)))) h g room = record { is-answer = ap (λ (x : Answer × List ℕ). x .0) e; is-after = ap (λ (x : Answer × List ℕ). x .1) e }
+
+pub refused-front : (n p : ℕ) (o : List ℕ) (r : Answer) (o' : List ℕ) → RefusedOf n p o r o' → 50 ≤ length o → Front (refusedText n p) o r o'
+refused-front n p o r o' (inl (a, (short, _), e)) room = absurd (omega (arith, refused-length n p))
+refused-front n p o r o' (inr (_, e)) room = record { is-answer = ap (λ (x : Answer × List ℕ). x .0) e; is-after = ap (λ (x : Answer × List ℕ). x .1) e }
+
+-- the text lies within the buffer
+pub page-within : (b o : List ℕ) (r : ℕ) (after : List ℕ) → Page b o r after → r ≤ length after
+page-within b o r after p = omega (arith, p .count, ap length (p .written), length-append (p .text) (drop (length (p .text)) o))
+
+-- ---- no second text
+
+pub one-printed : (b : List ℕ) → One (Printed b)
+one-printed b = one-decided refusedLine (Unsound b ∷ Faulty (depthOf b) (codes b) 1 ∷ []) _ (one-refuses, (one-refuses, tt)) one-equal

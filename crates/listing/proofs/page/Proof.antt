@@ -1,0 +1,131 @@
+-- `listing::page` meets its contract: neither the codes nor the text are ever short of room. Assumes nothing.
+use mathlib.Core.Path.{_≡_, refl, sym, ap, ap₂, subst, _∙_}
+use mathlib.Core.Bool.{true}
+use mathlib.Core.List.{List}
+use mathlib.Core.Logic.{inr}
+use Prim.Native.Nat.{ℕ, _≤_}
+use native.Mathlib.Omega.{arith}
+use borrow.Author.Needs.{needs}
+use lib.ListN.{length, take, drop}
+use lib.Seq.{take-at, length-take-le}
+use Rattle.cells.specs.declared.Answer.{Answer}
+use Rattle.cells.proofs.Bools.{clash}
+use Rattle.cells.proofs.Decisions.{passes}
+use Rattle.blocks.specs.Block.{depthOf, leaves, codes}
+use Rattle.blocks.specs.declared.Reading.{Reading}
+use Rattle.blocks.proofs.Sound.{shallow-file, codes-length}
+use Rattle.blocks.proofs.Theorems.{Taken, taken, no-fault}
+use Rattle.text.specs.Text.{textOf, TextOf, refusedText}
+use Rattle.listing.proofs.Pages.{few-codes, text-length, refused-printed, Front, text-front, refused-front}
+use Rattle.listing.proofs.page.Statement.{statement}
+use Rattle.listing.proofs.page.Tie as tie
+
+read-requires : tie.Need-read-requires
+read-requires c κs = search needs
+
+refused-text-requires : tie.Need-refused-text-requires
+refused-text-requires c κs = search needs
+
+same-length : tie.Need-same-length
+same-length c = search needs
+
+same-length-2 : tie.Need-same-length-2
+same-length-2 c = search needs
+
+returns : tie.Need-returns
+returns c =
+    let r = c .before .before in
+    let t = r .before .before in
+    let d = t .before .before .before .before in
+    let s = d .before .before .before .before .before in
+    let a = d .read .result .answer in
+    let f = refused-front (a .number) (a .place) (s .args .text .now) (r .refused-text .result) _ (r .refused-text .ensures) (omega (arith, s .pre .2)) in
+    record {
+      text = refusedText (a .number) (a .place);
+      printed = refused-printed (s .args .bytes .now) (s .args .codes .now) (d .read .result) _ (d .read .ensures) (t .if1 .taken) (s .pre .0) (s .pre .1);
+      count = ap (λ (x : Answer). x .place) (f .is-answer);
+      written = f .is-after;
+    }
+
+-- ---- a good file
+
+module _ (c : tie.Else1) where
+  abbrev d : tie.After-read
+  d = c .before .before .before .before
+
+  abbrev s : tie.Start
+  s = d .before .before .before .before .before
+
+  abbrev b : List ℕ
+  b = s .args .bytes .now
+
+  none : d .read .result .answer .number ≡ 0
+  none = search needs
+
+  file : Taken b (s .args .codes .now) (d .read .result) (d .read .last .1 .0)
+  file = taken b (s .args .codes .now) (d .read .result) _ (d .read .ensures) none
+
+  -- the codes read are the file's
+  is-place : d .read .result .answer .place ≡ leaves b
+  is-place = ap (λ (x : Reading). x .answer .place) (file .is-reading)
+
+  is-depth : d .read .result .depth ≡ depthOf b
+  is-depth = ap (λ (x : Reading). x .depth) (file .is-reading)
+
+  front : take (d .read .result .answer .place) (d .read .last .1 .0) ≡ codes b
+  front = ap₂ take is-place (file .is-after) ∙ take-at (codes b) (drop (leaves b) (s .args .codes .now)) (leaves b) (codes-length b)
+
+  -- they fit
+  few : leaves b ≤ 15616
+  few = few-codes b (file .is-sound) (s .pre .0)
+
+  room : d .read .result .answer .place ≤ length (d .read .last .1 .0)
+  room = omega (arith, is-place, few, s .pre .1, d .read .kept .1 .0)
+
+slice-reshare-prefix-list-text : tie.Need-slice-reshare-prefix-list-text
+slice-reshare-prefix-list-text c = room c
+
+slice-aggregate-list-text : tie.Need-slice-aggregate-list-text
+slice-aggregate-list-text c = let e = c .before in sym (length-take-le (d e .read .result .answer .place) (d e .read .last .1 .0) (room e))
+
+list-text-requires : tie.Need-list-text-requires
+list-text-requires c κs = search needs
+
+same-length-3 : tie.Need-same-length-3
+same-length-3 c = search needs
+
+same-length-4 : tie.Need-same-length-4
+same-length-4 c = search needs
+
+returns-2 : tie.Need-returns-2
+returns-2 c =
+    let l = c .before .before in
+    let e = l .before .before .before in
+    let o = s e .args .text .now in
+    let w : TextOf (depthOf (b e)) (codes (b e)) o (l .list-text .result) (l .list-text .last .1 .1 .0) =
+    subst (λ (x : List ℕ). TextOf (depthOf (b e)) x o (l .list-text .result) (l .list-text .last .1 .1 .0)) (front e)
+    (subst (λ (D : ℕ). TextOf D (take (d e .read .result .answer .place) (d e .read .last .1 .0)) o (l .list-text .result) (l .list-text .last .1 .1 .0)) (is-depth e) (l .list-text .ensures)) in
+    let h = shallow-file (b e) (file e .is-sound) in
+    let f = text-front (depthOf (b e)) (codes (b e)) o (l .list-text .result) _ w h (file e .good) (omega (arith, text-length (depthOf (b e)) (codes (b e)) h, codes-length (b e), few e, s e .pre .2)) in
+    record {
+      text = textOf (depthOf (b e)) (codes (b e));
+      printed = inr (passes (clash (file e .is-sound)), inr (passes (no-fault (depthOf (b e)) (codes (b e)) (file e .good)), refl));
+      count = ap (λ (x : Answer). x .place) (f .is-answer);
+      written = f .is-after;
+    }
+
+pub page-spec : {M : Type 1} → statement M
+page-spec =
+    tie.close
+    (tie.spec
+    read-requires
+    refused-text-requires
+    same-length
+    same-length-2
+    returns
+    slice-reshare-prefix-list-text
+    slice-aggregate-list-text
+    list-text-requires
+    same-length-3
+    same-length-4
+    returns-2)
