@@ -23,6 +23,10 @@ use Rattle.moves.proofs.MoveLaws.{one-move}
 use Rattle.blocks.specs.Calls.{BlockCheckOf, StoredVolumeOf, ReadOf, WriteOf}
 use Rattle.blocks.specs.declared.Reading.{Reading}
 use Rattle.blocks.proofs.CallLaws.{one-check-blocks, one-stored-volume, one-read, one-write}
+use Rattle.text.specs.Text.{TextOf, RefusedOf}
+use Rattle.text.proofs.CallLaws.{one-text, one-refused}
+use Rattle.cab.specs.Packed.{Packed}
+use Rattle.cab.proofs.Unique.{one-cab-neighbour, one-cab-check-blocks, one-cab-stored-volume}
 
 -- an answer and a buffer afterwards, of which one fits at most
 abbrev pub OnlyOne : (Answer → List ℕ → Type 0) → Type 0
@@ -88,3 +92,22 @@ only-read = one-read
 
 pub only-write : (D : ℕ) (l o : List ℕ) → OnlyOne (WriteOf D l o)
 only-write = one-write
+
+-- ---- text
+
+pub only-text : (D : ℕ) (l o : List ℕ) → OnlyOne (TextOf D l o)
+only-text = one-text
+
+pub only-refused : (n p : ℕ) (o : List ℕ) → OnlyOne (RefusedOf n p o)
+only-refused = one-refused
+
+-- ---- the C controller's calls
+
+pub only-cab-neighbour : (D c : ℕ) (dx dy dz : ℤ) → One (Packed (NeighbourOf D c dx dy dz))
+only-cab-neighbour = one-cab-neighbour
+
+pub only-cab-check-blocks : (b : List ℕ) → One (Packed (BlockCheckOf b))
+only-cab-check-blocks = one-cab-check-blocks
+
+pub only-cab-stored-volume : (b : List ℕ) → One (Packed (StoredVolumeOf b))
+only-cab-stored-volume = one-cab-stored-volume
