@@ -3,14 +3,8 @@ use borrow.Author.Needs.{needs}
 use Rattle.cab.proofs.cab_check_blocks.Statement.{statement}
 use Rattle.cab.proofs.cab_check_blocks.Tie as tie
 
-check-blocks-requires : tie.Need-check-blocks-requires
-check-blocks-requires c κs = search needs
-
-pack-requires : tie.Need-pack-requires
-pack-requires c κs = search needs
-
 returns : tie.Need-returns
 returns c = let n = c .before in (n .check-blocks .result, n .check-blocks .ensures, c .pack .ensures)
 
 pub cab-check-blocks-spec : {M : Type 1} → statement M
-cab-check-blocks-spec = tie.close (tie.spec check-blocks-requires pack-requires returns)
+cab-check-blocks-spec = tie.close (tie.spec (λ c κs. search needs) (λ c κs. search needs) returns)

@@ -6,12 +6,6 @@ use mir.ValLaws.{toZ-ofZ}
 use Rattle.cab.proofs.cab_neighbour.Statement.{statement}
 use Rattle.cab.proofs.cab_neighbour.Tie as tie
 
-neighbour-requires : tie.Need-neighbour-requires
-neighbour-requires c κs = search needs
-
-pack-requires : tie.Need-pack-requires
-pack-requires c κs = search needs
-
 returns : tie.Need-returns
 returns c =
     let n = c .before in
@@ -20,4 +14,4 @@ returns c =
     (n .neighbour .result, rw (toZ-ofZ w32 (a .dx) (s .fits .dx), toZ-ofZ w32 (a .dy) (s .fits .dy), toZ-ofZ w32 (a .dz) (s .fits .dz)) at (n .neighbour .ensures), c .pack .ensures)
 
 pub cab-neighbour-spec : {M : Type 1} → statement M
-cab-neighbour-spec = tie.close (tie.spec neighbour-requires pack-requires returns)
+cab-neighbour-spec = tie.close (tie.spec (λ c κs. search needs) (λ c κs. search needs) returns)

@@ -20,18 +20,6 @@ use Rattle.listing.proofs.Pages.{few-codes, text-length, refused-printe
 use Rattle.listing.proofs.page.Statement.{statement}
 use Rattle.listing.proofs.page.Tie as tie
 
-read-requires : tie.Need-read-requires
-read-requires c κs = search needs
-
-refused-text-requires : tie.Need-refused-text-requires
-refused-text-requires c κs = search needs
-
-same-length : tie.Need-same-length
-same-length c = search needs
-
-same-length-2 : tie.Need-same-length-2
-same-length-2 c = search needs
-
 returns : tie.Need-returns
 returns c =
     let r = c .before .before in
@@ -82,20 +70,8 @@ module _ (c : tie.Else1) where
   room : d .read .result .answer .place ≤ length (d .read .last .1 .0)
   room = omega (arith, is-place, few, s .pre .1, d .read .kept .1 .0)
 
-slice-reshare-prefix-list-text : tie.Need-slice-reshare-prefix-list-text
-slice-reshare-prefix-list-text c = room c
-
 slice-aggregate-list-text : tie.Need-slice-aggregate-list-text
 slice-aggregate-list-text c = let e = c .before in sym (length-take-le (d e .read .result .answer .place) (d e .read .last .1 .0) (room e))
-
-list-text-requires : tie.Need-list-text-requires
-list-text-requires c κs = search needs
-
-same-length-3 : tie.Need-same-length-3
-same-length-3 c = search needs
-
-same-length-4 : tie.Need-same-length-4
-same-length-4 c = search needs
 
 returns-2 : tie.Need-returns-2
 returns-2 c =
@@ -118,14 +94,14 @@ pub page-spec : {M : Type 1} → statement M
 page-spec =
     tie.close
     (tie.spec
-    read-requires
-    refused-text-requires
-    same-length
-    same-length-2
+    (λ c κs. search needs)
+    (λ c κs. search needs)
+    (λ c. search needs)
+    (λ c. search needs)
     returns
-    slice-reshare-prefix-list-text
+    (λ c. room c)
     slice-aggregate-list-text
-    list-text-requires
-    same-length-3
-    same-length-4
+    (λ c κs. search needs)
+    (λ c. search needs)
+    (λ c. search needs)
     returns-2)

@@ -37,29 +37,17 @@ module _ (c : tie.Else1) where
 
 -- ---- the needs
 
-check-requires : tie.Need-check-requires
-check-requires c κs = search needs
-
 returns : tie.Need-returns
 returns c =
     let t = c .before in
     let a = t .before .before .before .args in
     check-first (a .depth) (a .list .now) (t .check .result) (t .check .ensures) (keeping (a .out .now)) (moveTests (a .m)) (ByVoxels (a .depth) (a .list .now) (a .m) (a .out .now)) (c .if1 .taken)
 
-enum-known-m : tie.Need-enum-known-m
-enum-known-m c = search needs
-
 move-whole-requires : tie.Need-move-whole-requires
 move-whole-requires c κs = let k = pass (c .before .before .before .before) in (k .shallow, k .good .ordered)
 
-enum-known-m-2 : tie.Need-enum-known-m-2
-enum-known-m-2 c = search needs
-
 move-metres-requires : tie.Need-move-metres-requires
 move-metres-requires c κs = let k = pass (c .before .before .before .before) in (k .shallow, k .good .ordered)
-
-same-length : tie.Need-same-length
-same-length c = search needs
 
 -- whole voxels: no test of their own
 returns-2 : tie.Need-returns-2
@@ -79,9 +67,6 @@ returns-2 c =
     (subst (λ (m : Move). Decided (keeping (a .out .now)) (moveTests m) (ByVoxels (a .depth) (a .list .now) m (a .out .now)) left) (sym (t .m .given .1))
     (g .0, g .1 .0, g .1 .1 .0, (refl, refl, refl), moved))
 
-same-length-2 : tie.Need-same-length-2
-same-length-2 c = search needs
-
 -- metres: their tests
 returns-3 : tie.Need-returns-3
 returns-3 c =
@@ -97,13 +82,13 @@ pub move-list-spec : {M : Type 1} → statement M
 move-list-spec =
     tie.close
     (tie.spec
-    check-requires
+    (λ c κs. search needs)
     returns
-    enum-known-m
+    (λ c. search needs)
     move-whole-requires
-    enum-known-m-2
+    (λ c. search needs)
     move-metres-requires
-    same-length
+    (λ c. search needs)
     returns-2
-    same-length-2
+    (λ c. search needs)
     returns-3)

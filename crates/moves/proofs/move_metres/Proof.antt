@@ -18,24 +18,6 @@ use Rattle.moves.specs.Moves.{ShiftOf, ByVoxels}
 use Rattle.moves.proofs.move_metres.Statement.{statement}
 use Rattle.moves.proofs.move_metres.Tie as tie
 
-in-voxels-requires : tie.Need-in-voxels-requires
-in-voxels-requires c κs = search needs
-
-enum-known-taken : tie.Need-enum-known-taken
-enum-known-taken c = search needs
-
-cast-refusal : tie.Need-cast-refusal
-cast-refusal c = search needs
-
-refusal-requires : tie.Need-refusal-requires
-refusal-requires c κs = search needs
-
-enum-known-taken-2 : tie.Need-enum-known-taken-2
-enum-known-taken-2 c = search needs
-
-move-whole-requires : tie.Need-move-whole-requires
-move-whole-requires c κs = search needs
-
 returns : tie.Need-returns
 returns c =
     let t = c .before .before in
@@ -46,9 +28,6 @@ returns c =
     let told : TakenOf (a .d) (Bad p) = subst (TakenOf (a .d)) (t .taken .given .1) (v .in-voxels .ensures) in
     subst (λ (r : Answer). Decided (keeping (a .out .now)) (moveTests (the-move.Metres (a .d))) P (r, a .out .now)) (sym (c .refusal .ensures))
     (bad-decides (keeping (a .out .now)) P (a .d) p told)
-
-same-length : tie.Need-same-length
-same-length c = search needs
 
 returns-2 : tie.Need-returns-2
 returns-2 c =
@@ -70,12 +49,12 @@ pub move-metres-spec : {M : Type 1} → statement M
 move-metres-spec =
     tie.close
     (tie.spec
-    in-voxels-requires
-    enum-known-taken
-    cast-refusal
-    refusal-requires
-    enum-known-taken-2
-    move-whole-requires
+    (λ c κs. search needs)
+    (λ c. search needs)
+    (λ c. search needs)
+    (λ c κs. search needs)
+    (λ c. search needs)
+    (λ c κs. search needs)
     returns
-    same-length
+    (λ c. search needs)
     returns-2)

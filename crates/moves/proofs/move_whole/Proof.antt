@@ -58,21 +58,6 @@ module _ (e : tie.Else1) where
 
 -- ---- the needs
 
-part-requires : tie.Need-part-requires
-part-requires c κs = search needs
-
-part-requires-2 : tie.Need-part-requires-2
-part-requires-2 c κs = search needs
-
-part-requires-3 : tie.Need-part-requires-3
-part-requires-3 c κs = search needs
-
-first-leaves-requires : tie.Need-first-leaves-requires
-first-leaves-requires c κs = search needs
-
-refusal-requires : tie.Need-refusal-requires
-refusal-requires c κs = search needs
-
 returns : tie.Need-returns
 returns c =
     let t = c .before in
@@ -80,18 +65,6 @@ returns c =
     let a = s f .args in
     let F = first-leaves (a .depth) (a .list .now) (s f .pre .1) (a .dx) (a .dy) (a .dz) _ _ _ (parts f) (f .first-leaves .result) (f .first-leaves .ensures) (t .if1 .taken) in
     inl (_, (f .first-leaves .result, F, refl), ap (keeping (a .out .now)) (c .refusal .ensures))
-
-backwards-requires : tie.Need-backwards-requires
-backwards-requires c κs = search needs
-
-shift-list-requires : tie.Need-shift-list-requires
-shift-list-requires c κs = search needs
-
-refusal-requires-2 : tie.Need-refusal-requires-2
-refusal-requires-2 c κs = search needs
-
-same-length : tie.Need-same-length
-same-length c = search needs
 
 returns-2 : tie.Need-returns-2
 returns-2 c =
@@ -103,15 +76,6 @@ returns-2 c =
     next e (c .refusal2 .result, w .last .1 .1 .1 .0)
     (subst (λ (r : Answer). Told (a .depth) (FromBlack (a .depth) (a .dx) (a .dy) (a .dz) (a .list .now)) (a .out .now) (r, w .last .1 .1 .1 .0)) (sym (c .refusal2 .ensures))
     (crowded (a .depth) (shifted (a .depth) (a .list .now) (p .backwards .result)) _ (voxels e (p .backwards .result) (p .backwards .ensures)) (a .out .now) (w .last .1 .1 .1 .0) (w .result) (w .ensures) (c .before .if2 .taken)))
-
-shift-list-requires-2 : tie.Need-shift-list-requires-2
-shift-list-requires-2 c κs = search needs
-
-success-requires : tie.Need-success-requires
-success-requires c κs = search needs
-
-same-length-2 : tie.Need-same-length-2
-same-length-2 c = search needs
 
 returns-3 : tie.Need-returns-3
 returns-3 c =
@@ -131,18 +95,18 @@ pub move-whole-spec : {M : Type 1} → statement M
 move-whole-spec =
     tie.close
     (tie.spec
-    part-requires
-    part-requires-2
-    part-requires-3
-    first-leaves-requires
-    refusal-requires
+    (λ c κs. search needs)
+    (λ c κs. search needs)
+    (λ c κs. search needs)
+    (λ c κs. search needs)
+    (λ c κs. search needs)
     returns
-    backwards-requires
-    shift-list-requires
-    refusal-requires-2
-    same-length
+    (λ c κs. search needs)
+    (λ c κs. search needs)
+    (λ c κs. search needs)
+    (λ c. search needs)
     returns-2
-    shift-list-requires-2
-    success-requires
-    same-length-2
+    (λ c κs. search needs)
+    (λ c κs. search needs)
+    (λ c. search needs)
     returns-3)

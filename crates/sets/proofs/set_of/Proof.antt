@@ -8,19 +8,10 @@ use Rattle.records.proofs.Walks.{found-refuses, found-passes}
 use Rattle.sets.proofs.set_of.Statement.{statement}
 use Rattle.sets.proofs.set_of.Tie as tie
 
-refusal-requires : tie.Need-refusal-requires
-refusal-requires c κs = search needs
-
 returns : tie.Need-returns
 returns c =
     let a = c .before .before .before .before .before .args in
     inl (_, (c .before .if1 .taken, refl), ap (keeping (a .out .now)) (c .refusal .ensures))
-
-judge-requires : tie.Need-judge-requires
-judge-requires c κs = search needs
-
-refusal-requires-2 : tie.Need-refusal-requires-2
-refusal-requires-2 c κs = search needs
 
 returns-2 : tie.Need-returns-2
 returns-2 c =
@@ -30,12 +21,6 @@ returns-2 c =
       passes (deep-enough (j .before .if1 .left)),
       inl (_, found-refuses (a .depth) (a .a .now) (j .judge .result) (j .judge .ensures) 1 (c .before .if2 .taken), ap (keeping (a .out .now)) (c .refusal2 .ensures)),
     )
-
-judge-requires-2 : tie.Need-judge-requires-2
-judge-requires-2 c κs = search needs
-
-refusal-requires-3 : tie.Need-refusal-requires-3
-refusal-requires-3 c κs = search needs
 
 returns-3 : tie.Need-returns-3
 returns-3 c =
@@ -59,9 +44,6 @@ combine-requires c κs =
     let y : k .judge2 .result .number ≡ 0 = search needs in
     (j .before .if1 .left, j .judge .ensures .good z .ordered, k .judge2 .ensures .good y .ordered)
 
-same-length : tie.Need-same-length
-same-length c = search needs
-
 returns-4 : tie.Need-returns-4
 returns-4 c =
     let k = c .before .before .before .before .before in
@@ -81,14 +63,14 @@ pub set-of-spec : {M : Type 1} → statement M
 set-of-spec =
     tie.close
     (tie.spec
-    refusal-requires
+    (λ c κs. search needs)
     returns
-    judge-requires
-    refusal-requires-2
+    (λ c κs. search needs)
+    (λ c κs. search needs)
     returns-2
-    judge-requires-2
-    refusal-requires-3
+    (λ c κs. search needs)
+    (λ c κs. search needs)
     returns-3
     combine-requires
-    same-length
+    (λ c. search needs)
     returns-4)

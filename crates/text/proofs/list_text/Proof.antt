@@ -48,22 +48,10 @@ module _ (c : tie.Else1) where
   listed : {write : Bool} {b after : List ℕ} {r : ℕ} → Put write b 0 (listing (s v .args .depth) (l v) (v .volume .result .place)) after r → Put write b 0 (t v) after r
   listed p = put-as (ap (listing (s v .args .depth) (l v)) (good .is-volume)) p
 
-volume-requires : tie.Need-volume-requires
-volume-requires c κs = search needs
-
 returns : tie.Need-returns
 returns c =
     let q = c .before in
     volume-first (s q .args .depth) (l q) (q .volume .result) (q .volume .ensures) (keeping (o q)) (TooShort (length (t q)) (o q) ∷ []) (Stands (t q) (o q)) (c .if1 .taken)
-
-put-listing-requires : tie.Need-put-listing-requires
-put-listing-requires c κs = let k = good (c .before) in (k .shallow, k .good .ordered, k .few)
-
-refusal-requires : tie.Need-refusal-requires
-refusal-requires c κs = search needs
-
-same-length : tie.Need-same-length
-same-length c = search needs
 
 returns-2 : tie.Need-returns-2
 returns-2 c =
@@ -73,12 +61,6 @@ returns-2 c =
 
 put-listing-requires-2 : tie.Need-put-listing-requires-2
 put-listing-requires-2 c κs = let k = good (c .before .before .before .before .before .before) in (k .shallow, k .good .ordered, k .few)
-
-success-requires : tie.Need-success-requires
-success-requires c κs = search needs
-
-same-length-2 : tie.Need-same-length-2
-same-length-2 c = search needs
 
 returns-3 : tie.Need-returns-3
 returns-3 c =
@@ -93,13 +75,13 @@ pub list-text-spec : {M : Type 1} → statement M
 list-text-spec =
     tie.close
     (tie.spec
-    volume-requires
+    (λ c κs. search needs)
     returns
-    put-listing-requires
-    refusal-requires
-    same-length
+    (λ c κs. let k = good (c .before) in (k .shallow, k .good .ordered, k .few))
+    (λ c κs. search needs)
+    (λ c. search needs)
     returns-2
     put-listing-requires-2
-    success-requires
-    same-length-2
+    (λ c κs. search needs)
+    (λ c. search needs)
     returns-3)

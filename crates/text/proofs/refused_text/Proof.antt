@@ -5,29 +5,11 @@ use Rattle.text.proofs.CallLaws.{too-short, stands}
 use Rattle.text.proofs.refused_text.Statement.{statement}
 use Rattle.text.proofs.refused_text.Tie as tie
 
-put-refused-requires : tie.Need-put-refused-requires
-put-refused-requires c κs = search needs
-
-refusal-requires : tie.Need-refusal-requires
-refusal-requires c κs = search needs
-
-same-length : tie.Need-same-length
-same-length c = search needs
-
 returns : tie.Need-returns
 returns c =
     let p = c .before .before .before .before in
     let a = p .before .before .before .args in
     too-short (refusedText (a .number) (a .place)) (a .bytes .now) _ (p .put-refused .result) (p .put-refused .ensures) (c .before .if1 .taken) _ (c .refusal .ensures)
-
-put-refused-requires-2 : tie.Need-put-refused-requires-2
-put-refused-requires-2 c κs = search needs
-
-success-requires : tie.Need-success-requires
-success-requires c κs = search needs
-
-same-length-2 : tie.Need-same-length-2
-same-length-2 c = search needs
 
 returns-2 : tie.Need-returns-2
 returns-2 c =
@@ -42,11 +24,11 @@ pub refused-text-spec : {M : Type 1} → statement M
 refused-text-spec =
     tie.close
     (tie.spec
-    put-refused-requires
-    refusal-requires
-    same-length
+    (λ c κs. search needs)
+    (λ c κs. search needs)
+    (λ c. search needs)
     returns
-    put-refused-requires-2
-    success-requires
-    same-length-2
+    (λ c κs. search needs)
+    (λ c κs. search needs)
+    (λ c. search needs)
     returns-2)

@@ -12,12 +12,6 @@ use Rattle.blocks.specs.Block.{sound}
 use Rattle.blocks.proofs.inspect.check_blocks.Statement.{statement}
 use Rattle.blocks.proofs.inspect.check_blocks.Tie as tie
 
-soundness-of-requires : tie.Need-soundness-of-requires
-soundness-of-requires c κs = search needs
-
-refusal-requires : tie.Need-refusal-requires
-refusal-requires c κs = search needs
-
 returns : tie.Need-returns
 returns c =
     let t = c .before .before .before .soundness-of .ensures in
@@ -28,12 +22,6 @@ module _ (c : tie.Else1) where
   is-sound : sound (c .before .before .before .before .args .bytes .now) ≡ true
   is-sound = sym (c .before .before .soundness-of .ensures .0) ∙ not-false _ (c .if1 .left)
 
-leaves-of-requires : tie.Need-leaves-of-requires
-leaves-of-requires c κs = (is-sound c, c .before .before .soundness-of .ensures .1)
-
-success-requires : tie.Need-success-requires
-success-requires c κs = search needs
-
 returns-2 : tie.Need-returns-2
 returns-2 c = inr (passes (clash (is-sound (c .before .before))), c .success .ensures ∙ ap given (c .before .leaves-of .ensures))
 
@@ -41,9 +29,9 @@ pub check-blocks-spec : {M : Type 1} → statement M
 check-blocks-spec =
     tie.close
     (tie.spec
-    soundness-of-requires
-    refusal-requires
+    (λ c κs. search needs)
+    (λ c κs. search needs)
     returns
-    leaves-of-requires
-    success-requires
+    (λ c κs. (is-sound c, c .before .before .soundness-of .ensures .1))
+    (λ c κs. search needs)
     returns-2)

@@ -18,20 +18,11 @@ module _ (c : tie.After-answer) where
   abbrev Told : Answer → Type 0
   Told r = r ≡ given (blacks (depthOf b) (codes b))
 
-survey-of-requires : tie.Need-survey-of-requires
-survey-of-requires c κs = search needs
-
 returns : tie.Need-returns
 returns c =
     let t = c .before in
     let r = t .before .survey-of in
     survey-first (b t) (r .result .answer) (r .ensures .tells) alone [] (Told t) (c .if1 .taken)
-
-cast-success : tie.Need-cast-success
-cast-success c = search needs
-
-success-requires : tie.Need-success-requires
-success-requires c κs = search needs
 
 returns-2 : tie.Need-returns-2
 returns-2 c =
@@ -44,4 +35,4 @@ returns-2 c =
 
 pub stored-volume-spec : {M : Type 1} → statement M
 stored-volume-spec =
-    tie.close (tie.spec survey-of-requires returns cast-success success-requires returns-2)
+    tie.close (tie.spec (λ c κs. search needs) returns (λ c. search needs) (λ c κs. search needs) returns-2)

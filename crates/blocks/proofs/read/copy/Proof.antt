@@ -21,23 +21,11 @@ Inv-loop bytes n out₀ i₀ out i = (i ≤ n) × (out ≡ over (codes bytes) ou
 abbrev μ-loop : tie.MeasureT-loop
 μ-loop bytes n out₀ i₀ out i = n - i
 
-loop-holds : tie.Need-loop-holds Inv-loop μ-loop
-loop-holds c = (omega arith, refl)
-
 code-at-requires : tie.Need-code-at-requires Inv-loop μ-loop
 code-at-requires c κs = let s = c .before .before .before .before in leaf-within (s .args .bytes .now) (s .pre .0) (c .before .loop .i) (omega (arith, s .pre .1))
 
-mul-out : tie.Need-mul-out Inv-loop μ-loop
-mul-out c = omega arith
-
 slice-write-out : tie.Need-slice-write-out Inv-loop μ-loop
 slice-write-out c = omega (arith, lengths (c .before .before .before .before .before .args .bytes .now) (c .before .before .before .before .before .pre .0) (c .before .before .before .before .before .args .out .now) (c .before .before .loop .out) (c .before .before .loop .i) (c .before .before .before .before .before .args .n) (c .before .before .before .before .before .pre .1) (c .before .before .before .before .before .pre .2) (c .before .before .loop .inv .0) (c .before .before .loop .inv .1))
-
-add-i : tie.Need-add-i Inv-loop μ-loop
-add-i c = omega arith
-
-loop-less : tie.Need-loop-less Inv-loop μ-loop
-loop-less c = omega arith
 
 loop-again : tie.Need-loop-again Inv-loop μ-loop
 loop-again c =
@@ -67,12 +55,12 @@ copy-spec =
     (tie.spec
     Inv-loop
     μ-loop
-    loop-holds
+    (λ c. (omega arith, refl))
     code-at-requires
-    mul-out
+    (λ c. omega arith)
     slice-write-out
-    add-i
-    loop-less
+    (λ c. omega arith)
+    (λ c. omega arith)
     loop-again
     same-length
     returns)

@@ -44,22 +44,10 @@ module _ (c : tie.Else1) where
   there : Held (b (c .before)) (r (c .before) .place)
   there = held (b (c .before)) (r (c .before)) (c .before .before .survey-of .ensures .tells) none
 
-survey-of-requires : tie.Need-survey-of-requires
-survey-of-requires c κs = search needs
-
-unread-requires : tie.Need-unread-requires
-unread-requires c κs = search needs
-
 returns : tie.Need-returns
 returns c =
     let t = c .before .before in
     rw (c .unread .ensures) (survey-first (b t) (r t) (t .before .survey-of .ensures .tells) (unread (o t)) (TooShort (leaves (b t)) (o t) ∷ []) (Told t) (c .before .if1 .taken))
-
-refusal-requires : tie.Need-refusal-requires
-refusal-requires c κs = search needs
-
-unread-requires-2 : tie.Need-unread-requires-2
-unread-requires-2 c κs = search needs
 
 returns-2 : tie.Need-returns-2
 returns-2 c =
@@ -71,9 +59,6 @@ returns-2 c =
 
 copy-requires : tie.Need-copy-requires
 copy-requires c κs = let u = c .before .before in (there u .is-sound, there u .is-leaves, omega (arith, c .before .if2 .left))
-
-same-length : tie.Need-same-length
-same-length c = search needs
 
 returns-3 : tie.Need-returns-3
 returns-3 c =
@@ -90,12 +75,12 @@ pub read-spec : {M : Type 1} → statement M
 read-spec =
     tie.close
     (tie.spec
-    survey-of-requires
-    unread-requires
+    (λ c κs. search needs)
+    (λ c κs. search needs)
     returns
-    refusal-requires
-    unread-requires-2
+    (λ c κs. search needs)
+    (λ c κs. search needs)
     returns-2
     copy-requires
-    same-length
+    (λ c. search needs)
     returns-3)

@@ -3,8 +3,5 @@ use mathlib.Core.Path.{refl}
 use Rattle.blocks.proofs.read.unread.Statement.{statement}
 use Rattle.blocks.proofs.read.unread.Tie as tie
 
-returns : tie.Need-returns
-returns c = refl
-
 pub unread-spec : {M : Type 1} → statement M
-unread-spec = tie.close (tie.spec returns)
+unread-spec = tie.close (tie.spec (λ c. refl))

@@ -20,9 +20,6 @@ Inv-loop depth list n bytes₀ i₀ bytes i = (i ≤ n) × (bytes ≡ over (file
 abbrev μ-loop : tie.MeasureT-loop
 μ-loop depth list n bytes₀ i₀ bytes i = n - i
 
-loop-holds : tie.Need-loop-holds Inv-loop μ-loop
-loop-holds c = (omega arith, refl)
-
 -- the buffer at the loop's head
 module _ (c : tie.At-loop Inv-loop μ-loop) where
   abbrev s : tie.Start Inv-loop μ-loop
@@ -36,19 +33,10 @@ put-block-requires c κs =
     let h = c .before .before in
     (s h .pre .0, s h .pre .1, omega arith, omega (arith, same h, s h .pre .2))
 
-add-i : tie.Need-add-i Inv-loop μ-loop
-add-i c = omega arith
-
-loop-less : tie.Need-loop-less Inv-loop μ-loop
-loop-less c = omega arith
-
 loop-again : tie.Need-loop-again Inv-loop μ-loop
 loop-again c =
     let h = c .before .before .before .before .before in
     (omega arith, c .before .before .put-block .ensures (s h .args .bytes .now) (h .loop .inv .1))
-
-same-length : tie.Need-same-length Inv-loop μ-loop
-same-length c = same (c .before)
 
 returns : tie.Need-returns Inv-loop μ-loop
 returns c =
@@ -64,10 +52,10 @@ put-blocks-spec =
     (tie.spec
     Inv-loop
     μ-loop
-    loop-holds
+    (λ c. (omega arith, refl))
     put-block-requires
-    add-i
-    loop-less
+    (λ c. omega arith)
+    (λ c. omega arith)
     loop-again
-    same-length
+    (λ c. same (c .before))
     returns)

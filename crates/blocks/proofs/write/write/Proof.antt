@@ -55,22 +55,10 @@ module _ (c : tie.After-blocks-of) where
   few : c .blocks-of .result < 2 ^ 32
   few = omega (arith, is-blocks, good .few, pow8-small (s t .args .depth) (good .shallow))
 
-check-requires : tie.Need-check-requires
-check-requires c κs = search needs
-
 returns : tie.Need-returns
 returns c =
     let q = c .before in
     check-first (s q .args .depth) (l q) (q .check .result) (q .check .ensures) (keeping (o q)) (TooShort (need q) (o q) ∷ []) (Told q) (c .if1 .taken)
-
-blocks-of-requires : tie.Need-blocks-of-requires
-blocks-of-requires c κs = search needs
-
-mul-need : tie.Need-mul-need
-mul-need c = omega (arith, few c)
-
-refusal-requires : tie.Need-refusal-requires
-refusal-requires c κs = search needs
 
 returns-2 : tie.Need-returns-2
 returns-2 c =
@@ -80,12 +68,6 @@ returns-2 c =
 
 put-blocks-requires : tie.Need-put-blocks-requires
 put-blocks-requires c κs = let q = c .before .before in (is-blocks q, few q, omega (arith, c .before .if2 .left))
-
-success-requires : tie.Need-success-requires
-success-requires c κs = search needs
-
-same-length : tie.Need-same-length
-same-length c = search needs
 
 returns-3 : tie.Need-returns-3
 returns-3 c =
@@ -99,13 +81,13 @@ pub write-spec : {M : Type 1} → statement M
 write-spec =
     tie.close
     (tie.spec
-    check-requires
+    (λ c κs. search needs)
     returns
-    blocks-of-requires
-    mul-need
-    refusal-requires
+    (λ c κs. search needs)
+    (λ c. omega (arith, few c))
+    (λ c κs. search needs)
     returns-2
     put-blocks-requires
-    success-requires
-    same-length
+    (λ c κs. search needs)
+    (λ c. search needs)
     returns-3)

@@ -35,40 +35,10 @@ module _ (c : tie.Else2) where
   some-side : (s : ℕ) → s ≡ 2 ^ (start .args .depth - start .args .level) → 0 < s
   some-side s e = omega (arith, e, pow2-pos (start .args .depth - start .args .level))
 
-refusal-requires : tie.Need-refusal-requires
-refusal-requires c κs = search needs
-
-returns : tie.Need-returns
-returns c = inl (_, (c .before .if1 .taken, refl), c .refusal .ensures)
-
-is-corner-requires : tie.Need-is-corner-requires
-is-corner-requires c κs = search needs
-
-refusal-requires-2 : tie.Need-refusal-requires-2
-refusal-requires-2 c κs = search needs
-
 returns-2 : tie.Need-returns-2
 returns-2 c =
     let p = c .before .before in
     inr (passes (deep-enough (p .before .if1 .left)), inl (_, (sym (p .is-corner .ensures) ∙ not-true _ (c .before .if2 .taken), refl), c .refusal2 .ensures))
-
-sub-pow2 : tie.Need-sub-pow2
-sub-pow2 c = grid c .deep
-
-pow2-requires : tie.Need-pow2-requires
-pow2-requires c κs = omega (arith, deep c)
-
-pow8-requires : tie.Need-pow8-requires
-pow8-requires c κs = omega (arith, grid (c .before) .deep, deep (c .before))
-
-div-number-of : tie.Need-div-number-of
-div-number-of c = some-side (c .before .before) _ (c .before .pow2 .ensures)
-
-div-number-of-2 : tie.Need-div-number-of-2
-div-number-of-2 c = some-side (c .before .before) _ (c .before .pow2 .ensures)
-
-div-number-of-3 : tie.Need-div-number-of-3
-div-number-of-3 c = some-side (c .before .before) _ (c .before .pow2 .ensures)
 
 number-of-requires : tie.Need-number-of-requires
 number-of-requires c κs = omega (arith, grid (c .before .before) .deep, deep (c .before .before))
@@ -79,12 +49,6 @@ add-code c =
     let a = e .before .before .before .args in
     let s : ℕ = c .before .before .pow2 .result in
     omega (arith, c .number-of .ensures, c .before .pow8 .ensures, number-lt (a .level) (a .x / s) (a .y / s) (a .z / s), pow8-small (a .level) (omega (arith, grid e .deep, deep e)))
-
-cast-success : tie.Need-cast-success
-cast-success c = search needs
-
-success-requires : tie.Need-success-requires
-success-requires c κs = search needs
 
 returns-3 : tie.Need-returns-3
 returns-3 c =
@@ -103,19 +67,19 @@ pub code-spec : {M : Type 1} → statement M
 code-spec =
     tie.close
     (tie.spec
-    refusal-requires
-    returns
-    is-corner-requires
-    refusal-requires-2
+    (λ c κs. search needs)
+    (λ c. inl (_, (c .before .if1 .taken, refl), c .refusal .ensures))
+    (λ c κs. search needs)
+    (λ c κs. search needs)
     returns-2
-    sub-pow2
-    pow2-requires
-    pow8-requires
-    div-number-of
-    div-number-of-2
-    div-number-of-3
+    (λ c. grid c .deep)
+    (λ c κs. omega (arith, deep c))
+    (λ c κs. omega (arith, grid (c .before) .deep, deep (c .before)))
+    (λ c. some-side (c .before .before) _ (c .before .pow2 .ensures))
+    (λ c. some-side (c .before .before) _ (c .before .pow2 .ensures))
+    (λ c. some-side (c .before .before) _ (c .before .pow2 .ensures))
     number-of-requires
     add-code
-    cast-success
-    success-requires
+    (λ c. search needs)
+    (λ c κs. search needs)
     returns-3)

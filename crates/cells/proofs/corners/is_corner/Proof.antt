@@ -13,12 +13,6 @@ returns : tie.Need-returns
 unfolding isCorner
 returns c = let a = c .before .args in rw (lt-leb (a .level) (a .depth) (c .if1 .taken))
 
-pow2-requires : tie.Need-pow2-requires
-pow2-requires c κs = search needs
-
-pow2-requires-2 : tie.Need-pow2-requires-2
-pow2-requires-2 c κs = search needs
-
 on-grid-requires : tie.Need-on-grid-requires
 on-grid-requires c κs = let a = c .before .before .before .args in omega (arith, c .pow22 .ensures, pow2-pos (a .depth - a .level))
 
@@ -54,8 +48,8 @@ is-corner-spec =
     tie.close
     (tie.spec
     returns
-    pow2-requires
-    pow2-requires-2
+    (λ c κs. search needs)
+    (λ c κs. search needs)
     on-grid-requires
     returns-2
     on-grid-requires-2

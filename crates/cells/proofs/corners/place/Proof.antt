@@ -22,37 +22,13 @@ module _ (c : tie.Else2) where
   is-proper : proper (c .before .before .before .args .depth) (c .before .before .before .args .code) ≡ true
   is-proper = sym (c .before .is-proper .ensures) ∙ not-false _ (c .if2 .left)
 
-no-corner-requires : tie.Need-no-corner-requires
-no-corner-requires c κs = search needs
-
-returns : tie.Need-returns
-returns c = inl (_, (c .before .if1 .taken, refl), c .no-corner .ensures)
-
-is-proper-requires : tie.Need-is-proper-requires
-is-proper-requires c κs = search needs
-
-no-corner-requires-2 : tie.Need-no-corner-requires-2
-no-corner-requires-2 c κs = search needs
-
 returns-2 : tie.Need-returns-2
 returns-2 c =
     let p = c .before .before in
     inr (passes (deep-enough (p .before .if1 .left)), inl (_, (sym (p .is-proper .ensures) ∙ not-true _ (c .before .if2 .taken), refl), c .no-corner2 .ensures))
 
-coordinate-requires : tie.Need-coordinate-requires
-coordinate-requires c κs = let q = is-proper c in (omega arith, deep c, q)
-
-coordinate-requires-2 : tie.Need-coordinate-requires-2
-coordinate-requires-2 c κs = (omega arith, deep (c .before), is-proper (c .before))
-
-coordinate-requires-3 : tie.Need-coordinate-requires-3
-coordinate-requires-3 c κs = (omega arith, deep (c .before .before), is-proper (c .before .before))
-
 level-of-requires : tie.Need-level-of-requires
 level-of-requires c κs = (deep (c .before .before .before), is-proper (c .before .before .before))
-
-success-requires : tie.Need-success-requires
-success-requires c κs = search needs
 
 returns-3 : tie.Need-returns-3
 returns-3 c =
@@ -69,14 +45,14 @@ pub place-spec : {M : Type 1} → statement M
 place-spec =
     tie.close
     (tie.spec
-    no-corner-requires
-    returns
-    is-proper-requires
-    no-corner-requires-2
+    (λ c κs. search needs)
+    (λ c. inl (_, (c .before .if1 .taken, refl), c .no-corner .ensures))
+    (λ c κs. search needs)
+    (λ c κs. search needs)
     returns-2
-    coordinate-requires
-    coordinate-requires-2
-    coordinate-requires-3
+    (λ c κs. let q = is-proper c in (omega arith, deep c, q))
+    (λ c κs. (omega arith, deep (c .before), is-proper (c .before)))
+    (λ c κs. (omega arith, deep (c .before .before), is-proper (c .before .before)))
     level-of-requires
-    success-requires
+    (λ c κs. search needs)
     returns-3)

@@ -11,9 +11,6 @@ use Rattle.cells.proofs.Words.{pow2-small}
 use Rattle.cells.proofs.inner.coordinate.Statement.{statement}
 use Rattle.cells.proofs.inner.coordinate.Tie as tie
 
-level-of-requires : tie.Need-level-of-requires
-level-of-requires c κs = (c .pre .1, c .pre .2)
-
 pow8-requires : tie.Need-pow8-requires
 pow8-requires c κs = let a = c .before .args in omega (arith, c .level-of .ensures, level-le (a .depth) (a .code), c .before .pre .1)
 
@@ -25,9 +22,6 @@ axis-requires c κs = let s = c .before .before in (omega (arith, c .before .lev
 
 sub-pow2 : tie.Need-sub-pow2
 sub-pow2 c = let s = c .before .before .before in omega (arith, c .before .before .level-of .ensures, level-le (s .args .depth) (s .args .code))
-
-pow2-requires : tie.Need-pow2-requires
-pow2-requires c κs = let s = c .before .before .before in omega (arith, s .pre .1)
 
 mul-result : tie.Need-mul-result
 mul-result c =
@@ -47,11 +41,11 @@ pub coordinate-spec : {M : Type 1} → statement M
 coordinate-spec =
     tie.close
     (tie.spec
-    level-of-requires
+    (λ c κs. (c .pre .1, c .pre .2))
     pow8-requires
     sub-axis
     axis-requires
     sub-pow2
-    pow2-requires
+    (λ c κs. let s = c .before .before .before in omega (arith, s .pre .1))
     mul-result
     returns)

@@ -13,22 +13,10 @@ use Rattle.cells.proofs.inner.first.Tie as tie
 product : (c : tie.After-width) → c .before .args .code * c .width .result ≡ 8 ^ c .before .args .depth + start (c .before .args .depth) (c .before .args .code)
 product c = let s = c .before in ap (λ (w : ℕ). s .args .code * w) (c .width .ensures) ∙ interval (s .args .depth) (s .args .code) (s .pre .1)
 
-width-requires : tie.Need-width-requires
-width-requires c κs = search needs
-
 mul-result : tie.Need-mul-result
 mul-result c =
     let s = c .before in
     omega (arith, product c, within (s .args .depth) (s .args .code) (s .pre .1), pow8-small (s .args .depth) (s .pre .0))
 
-pow8-requires : tie.Need-pow8-requires
-pow8-requires c κs = search needs
-
-sub-result : tie.Need-sub-result
-sub-result c = omega (arith, product (c .before), c .pow8 .ensures)
-
-returns : tie.Need-returns
-returns c = omega (arith, product (c .before), c .pow8 .ensures)
-
 pub first-spec : {M : Type 1} → statement M
-first-spec = tie.close (tie.spec width-requires mul-result pow8-requires sub-result returns)
+first-spec = tie.close (tie.spec (λ c κs. search needs) mul-result (λ c κs. search needs) (λ c. omega (arith, product (c .before), c .pow8 .ensures)) (λ c. omega (arith, product (c .before), c .pow8 .ensures)))

@@ -6,11 +6,5 @@ use Rattle.cells.proofs.inner.pow2.Tie as tie
 use native.Mathlib.Omega.{arith}
 use Rattle.cells.proofs.Words.{pow2-small}
 
-shl-result : tie.Need-shl-result
-shl-result c = search needs
-
-returns : tie.Need-returns
-returns c = omega (arith, pow2-small (c .args .n) (omega arith))
-
 pub pow2-spec : {M : Type 1} → statement M
-pow2-spec = tie.close (tie.spec shl-result returns)
+pow2-spec = tie.close (tie.spec (λ c. search needs) (λ c. omega (arith, pow2-small (c .args .n) (omega arith))))

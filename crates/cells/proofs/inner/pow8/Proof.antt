@@ -5,14 +5,8 @@ use Rattle.cells.proofs.Words.{pow8-small, shifted}
 use Rattle.cells.proofs.inner.pow8.Statement.{statement}
 use Rattle.cells.proofs.inner.pow8.Tie as tie
 
-mul-result : tie.Need-mul-result
-mul-result c = search needs
-
-shl-result : tie.Need-shl-result
-shl-result c = search needs
-
 returns : tie.Need-returns
 returns c = shifted 32 (c .args .n) (omega (arith, pow8-small (c .args .n) (c .pre)))
 
 pub pow8-spec : {M : Type 1} → statement M
-pow8-spec = tie.close (tie.spec mul-result shl-result returns)
+pow8-spec = tie.close (tie.spec (λ c. search needs) (λ c. search needs) returns)

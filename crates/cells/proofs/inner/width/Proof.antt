@@ -23,9 +23,6 @@ shifted-span D c h p =
     ap (λ (n : ℕ). (1 * 2 ^ n) % 2 ^ 32) (omega (arith, zeros D c h p))
     ∙ shifted 32 (D - level D c) (omega (arith, pow8-small (D - level D c) (omega arith)))
 
-mul-result : tie.Need-mul-result
-mul-result c = search needs
-
 add-result : tie.Need-add-result
 add-result c = omega (arith, zeros (c .args .depth) (c .args .code) (c .pre .0) (c .pre .1))
 
@@ -35,8 +32,5 @@ sub-result c = omega (arith, zeros (c .args .depth) (c .args .code) (c .pre .0) 
 shl-result : tie.Need-shl-result
 shl-result c = omega (arith, zeros (c .args .depth) (c .args .code) (c .pre .0) (c .pre .1))
 
-returns : tie.Need-returns
-returns c = shifted-span (c .args .depth) (c .args .code) (c .pre .0) (c .pre .1)
-
 pub width-spec : {M : Type 1} → statement M
-width-spec = tie.close (tie.spec mul-result add-result sub-result shl-result returns)
+width-spec = tie.close (tie.spec (λ c. search needs) add-result sub-result shl-result (λ c. shifted-span (c .args .depth) (c .args .code) (c .pre .0) (c .pre .1)))

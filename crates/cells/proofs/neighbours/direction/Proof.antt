@@ -25,15 +25,6 @@ module _ (c : tie.After-digit3) where
   at-z : c .digit3 .result ≡ digitOf (s .args .dz)
   at-z = c .digit3 .ensures ∙ ap digitOf (toZ-ofZ w32 (s .args .dz) (s .fits .dz))
 
-digit-requires : tie.Need-digit-requires
-digit-requires c κs = search needs
-
-digit-requires-2 : tie.Need-digit-requires-2
-digit-requires-2 c κs = search needs
-
-digit-requires-3 : tie.Need-digit-requires-3
-digit-requires-3 c κs = search needs
-
 returns : tie.Need-returns
 returns c =
     let q = c .before in
@@ -52,18 +43,6 @@ returns-3 c =
     let a = s q .args in
     bad-z (a .dx) (a .dy) (a .dz) (omega (arith, at-x q)) (omega (arith, at-y q)) (omega (arith, at-z q))
 
-mul-result : tie.Need-mul-result
-mul-result c = search needs
-
-add-result : tie.Need-add-result
-add-result c = search needs
-
-mul-result-2 : tie.Need-mul-result-2
-mul-result-2 c = search needs
-
-add-result-2 : tie.Need-add-result-2
-add-result-2 c = search needs
-
 returns-4 : tie.Need-returns-4
 returns-4 c =
     let q = c .before .before .before in
@@ -74,14 +53,14 @@ pub direction-spec : {M : Type 1} → statement M
 direction-spec =
     tie.close
     (tie.spec
-    digit-requires
-    digit-requires-2
-    digit-requires-3
+    (λ c κs. search needs)
+    (λ c κs. search needs)
+    (λ c κs. search needs)
     returns
     returns-2
     returns-3
-    mul-result
-    add-result
-    mul-result-2
-    add-result-2
+    (λ c. search needs)
+    (λ c. search needs)
+    (λ c. search needs)
+    (λ c. search needs)
     returns-4)

@@ -59,28 +59,10 @@ module _ (c : tie.After-direction Inv-loop μ-loop) where
   small : 8 ^ k ≤ 8 ^ deepest
   small = pow8-small k (omega (arith, level-le (s .args .depth) (s .args .code), deep))
 
-refusal-requires : tie.Need-refusal-requires Inv-loop μ-loop
-refusal-requires c κs = search needs
-
-returns : tie.Need-returns Inv-loop μ-loop
-returns c = inl (_, (c .before .if1 .taken, refl), c .refusal .ensures)
-
-is-proper-requires : tie.Need-is-proper-requires Inv-loop μ-loop
-is-proper-requires c κs = search needs
-
-refusal-requires-2 : tie.Need-refusal-requires-2 Inv-loop μ-loop
-refusal-requires-2 c κs = search needs
-
 returns-2 : tie.Need-returns-2 Inv-loop μ-loop
 returns-2 c =
     let p = c .before .before in
     inr (passes (deep-enough (p .before .if1 .left)), inl (_, (sym (p .is-proper .ensures) ∙ not-true _ (c .before .if2 .taken), refl), c .refusal2 .ensures))
-
-direction-requires : tie.Need-direction-requires Inv-loop μ-loop
-direction-requires c κs = search needs
-
-refusal-requires-3 : tie.Need-refusal-requires-3 Inv-loop μ-loop
-refusal-requires-3 c κs = search needs
 
 returns-3 : tie.Need-returns-3 Inv-loop μ-loop
 returns-3 c =
@@ -92,9 +74,6 @@ loop-holds c =
     let q = c .before in
     let a = s q .args in
     begins (k q) (i q) (d q) (a .code) (code-is (a .depth) (a .code) (is q)) (index-lt (a .depth) (a .code) (is q)) (directed q .small)
-
-refusal-requires-4 : tie.Need-refusal-requires-4 Inv-loop μ-loop
-refusal-requires-4 c κs = search needs
 
 returns-4 : tie.Need-returns-4 Inv-loop μ-loop
 returns-4 c =
@@ -113,9 +92,6 @@ returns-4 c =
       ),
     )
 
-rule-requires : tie.Need-rule-requires Inv-loop μ-loop
-rule-requires c κs = (omega arith, c .before .before .loop .inv .small)
-
 -- a label more fits the word
 next-fits : (c : tie.After-rule Inv-loop μ-loop)
     → (c .before .before .before .loop .done + c .rule .result % 8 * c .before .before .before .loop .weight < 2 ^ 32) × (c .before .before .before .loop .weight * 8 < 2 ^ 32)
@@ -125,18 +101,6 @@ next-fits c =
     let r = room (k q) (i q) (d q) _ _ _ _ (l .loop .inv) (c .before .if4 .left) in
     let w : c .rule .result % 8 * l .loop .weight ≤ 7 * l .loop .weight = mul-le-mul-right (l .loop .weight) (omega arith) in
     omega (arith, small q, l .loop .inv .low)
-
-mul-done : tie.Need-mul-done Inv-loop μ-loop
-mul-done c = omega (arith, next-fits c)
-
-add-done : tie.Need-add-done Inv-loop μ-loop
-add-done c = omega (arith, next-fits c)
-
-mul-weight : tie.Need-mul-weight Inv-loop μ-loop
-mul-weight c = omega (arith, next-fits c)
-
-loop-less : tie.Need-loop-less Inv-loop μ-loop
-loop-less c = omega arith
 
 loop-again : tie.Need-loop-again Inv-loop μ-loop
 loop-again c =
@@ -159,18 +123,6 @@ address-fits c =
     let l = c .before in
     let q = l .before .before in
     omega (arith, worked l (c .loop-test .left), small q, stepped-lt (k q) (i q) (d q))
-
-mul-success : tie.Need-mul-success Inv-loop μ-loop
-mul-success c = omega (arith, address-fits c)
-
-add-success : tie.Need-add-success Inv-loop μ-loop
-add-success c = omega (arith, address-fits c)
-
-cast-success : tie.Need-cast-success Inv-loop μ-loop
-cast-success c = omega (arith, address-fits c)
-
-success-requires : tie.Need-success-requires Inv-loop μ-loop
-success-requires c κs = search needs
 
 returns-5 : tie.Need-returns-5 Inv-loop μ-loop
 returns-5 c =
@@ -196,25 +148,25 @@ neighbour-spec =
     (tie.spec
     Inv-loop
     μ-loop
-    refusal-requires
-    returns
-    is-proper-requires
-    refusal-requires-2
+    (λ c κs. search needs)
+    (λ c. inl (_, (c .before .if1 .taken, refl), c .refusal .ensures))
+    (λ c κs. search needs)
+    (λ c κs. search needs)
     returns-2
-    direction-requires
-    refusal-requires-3
+    (λ c κs. search needs)
+    (λ c κs. search needs)
     returns-3
     loop-holds
-    refusal-requires-4
+    (λ c κs. search needs)
     returns-4
-    rule-requires
-    mul-done
-    add-done
-    mul-weight
-    loop-less
+    (λ c κs. (omega arith, c .before .before .loop .inv .small))
+    (λ c. omega (arith, next-fits c))
+    (λ c. omega (arith, next-fits c))
+    (λ c. omega (arith, next-fits c))
+    (λ c. omega arith)
     loop-again
-    mul-success
-    add-success
-    cast-success
-    success-requires
+    (λ c. omega (arith, address-fits c))
+    (λ c. omega (arith, address-fits c))
+    (λ c. omega (arith, address-fits c))
+    (λ c κs. search needs)
     returns-5)

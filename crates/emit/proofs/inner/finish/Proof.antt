@@ -6,15 +6,6 @@ use Rattle.emit.proofs.Runs.{emit-done}
 use Rattle.emit.proofs.inner.finish.Statement.{statement}
 use Rattle.emit.proofs.inner.finish.Tie as tie
 
-pow8-requires : tie.Need-pow8-requires
-pow8-requires c κs = search needs
-
-flush-requires : tie.Need-flush-requires
-flush-requires c κs = search needs
-
-same-length : tie.Need-same-length
-same-length c = search needs
-
 returns : tie.Need-returns
 returns c = λ P o e.
     let s = c .before .before .before .before .before .before in
@@ -25,4 +16,4 @@ returns c = λ P o e.
     emit-done (a .depth) P (a .write) o (f .last .1 .1 .1 .0) (f .result) (x .emits o e)
 
 pub finish-spec : {M : Type 1} → statement M
-finish-spec = tie.close (tie.spec pow8-requires flush-requires same-length returns)
+finish-spec = tie.close (tie.spec (λ c κs. search needs) (λ c κs. search needs) (λ c. search needs) returns)

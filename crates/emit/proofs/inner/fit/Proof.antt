@@ -30,17 +30,8 @@ Inv-loop p to room w₀ w = Fits p to w
 abbrev μ-loop : tie.MeasureT-loop
 μ-loop p to room w₀ w = to - w
 
-sub-room : tie.Need-sub-room Inv-loop μ-loop
-sub-room c = search needs
-
 loop-holds : tie.Need-loop-holds Inv-loop μ-loop
 loop-holds c = record { k = 0; q = c .args .p; wide = refl; even = sym (mul-one (c .args .p)); fits = omega arith }
-
-mul-next : tie.Need-mul-next Inv-loop μ-loop
-mul-next c = omega arith
-
-rem-if1 : tie.Need-rem-if1 Inv-loop μ-loop
-rem-if1 c = omega (arith, some (c .before .loop .inv))
 
 returns : tie.Need-returns Inv-loop μ-loop
 returns c =
@@ -48,9 +39,6 @@ returns c =
     let w = c .before .before .loop .w in
     most-fits (a .p) (a .to) w (c .before .before .loop .inv)
     (λ m e g. c .if1 .taken (ap (λ (n : ℕ). n % (w * 8)) (e ∙ ap (λ (n : ℕ). m * n) (mul-comm 8 w)) ∙ mul-mod-left m (w * 8)))
-
-loop-less : tie.Need-loop-less Inv-loop μ-loop
-loop-less c = omega (arith, some (c .before .before .loop .inv))
 
 loop-again : tie.Need-loop-again Inv-loop μ-loop
 loop-again c =
@@ -76,11 +64,11 @@ fit-spec =
     (tie.spec
     Inv-loop
     μ-loop
-    sub-room
+    (λ c. search needs)
     loop-holds
-    mul-next
-    rem-if1
+    (λ c. omega arith)
+    (λ c. omega (arith, some (c .before .loop .inv)))
     returns
-    loop-less
+    (λ c. omega (arith, some (c .before .before .loop .inv)))
     loop-again
     returns-2)

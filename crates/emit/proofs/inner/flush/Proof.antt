@@ -39,16 +39,10 @@ Inv-loop depth pos out₀ write full to p₀ n₀ out p n = Part depth pos write
 abbrev μ-loop : tie.MeasureT-loop
 μ-loop depth pos out₀ write full to p₀ n₀ out p n = to - p
 
-pow8-requires : tie.Need-pow8-requires Inv-loop μ-loop
-pow8-requires c κs = c .before .pre .0
-
 loop-holds : tie.Need-loop-holds Inv-loop μ-loop
 loop-holds c =
     let h = c .before .before .pre .1 in
     record { ready = record { run = h .run; past = h .past; few = h .few; root = h .root }; emits = λ P front e. e; kept = refl }
-
-fit-requires : tie.Need-fit-requires Inv-loop μ-loop
-fit-requires c κs = c .loop-test .taken
 
 -- in a turn, what is below the root's end
 module _ (c : tie.After-fit Inv-loop μ-loop) where
@@ -61,21 +55,6 @@ module _ (c : tie.After-fit Inv-loop μ-loop) where
       let h = at-loop .loop .inv .ready in
       let f = c .fit .ensures in
       omega (arith, pow8-small (s .args .depth) (s .pre .0), at-loop .before .pow8 .ensures, h .few, h .past, h .root, f .fits, fit-some f)
-
-add-put : tie.Need-add-put Inv-loop μ-loop
-add-put c = omega (arith, small (c .before))
-
-div-put : tie.Need-div-put Inv-loop μ-loop
-div-put c = omega (arith, small (c .before))
-
-put-requires : tie.Need-put-requires Inv-loop μ-loop
-put-requires c κs = tt
-
-add-n : tie.Need-add-n Inv-loop μ-loop
-add-n c = omega (arith, small (c .before .before .before .before))
-
-add-p : tie.Need-add-p Inv-loop μ-loop
-add-p c = omega (arith, small (c .before .before .before .before))
 
 loop-less : tie.Need-loop-less Inv-loop μ-loop
 loop-less c = omega (arith, small (c .before .before .before .before), c .before .before .before .before .before .loop-test .taken)
@@ -93,9 +72,6 @@ loop-again c =
     (u .ensures ∙ ap (λ (x : ℕ). puts (a .write) (t .loop .out) (t .loop .n) ((x + t .loop .p) / w .result ∷ [])) (t .before .pow8 .ensures))
     (u .kept .0)
     (t .loop .inv)
-
-same-length : tie.Need-same-length Inv-loop μ-loop
-same-length c = c .before .loop .inv .kept
 
 returns : tie.Need-returns Inv-loop μ-loop
 returns c = λ P.
@@ -115,15 +91,15 @@ flush-spec =
     (tie.spec
     Inv-loop
     μ-loop
-    pow8-requires
+    (λ c κs. c .before .pre .0)
     loop-holds
-    fit-requires
-    add-put
-    div-put
-    put-requires
-    add-n
-    add-p
+    (λ c κs. c .loop-test .taken)
+    (λ c. omega (arith, small (c .before)))
+    (λ c. omega (arith, small (c .before)))
+    (λ c κs. tt)
+    (λ c. omega (arith, small (c .before .before .before .before)))
+    (λ c. omega (arith, small (c .before .before .before .before)))
     loop-less
     loop-again
-    same-length
+    (λ c. c .before .loop .inv .kept)
     returns)

@@ -36,9 +36,6 @@ flush-requires c κs =
     let s = c .before .before .before .before .before in
     (s .pre .0, s .pre .1, λ _. lt-of-le-ne (s .pre .1 .past) (c .before .if2 .left))
 
-same-length : tie.Need-same-length
-same-length c = search needs
-
 returns-3 : tie.Need-returns-3
 returns-3 c = λ P colour.
     let s = c .before .before .before .before .before .before .before .before in
@@ -54,4 +51,4 @@ returns-3 c = λ P colour.
     }
 
 pub push-spec : {M : Type 1} → statement M
-push-spec = tie.close (tie.spec returns returns-2 flush-requires same-length returns-3)
+push-spec = tie.close (tie.spec returns returns-2 flush-requires (λ c. search needs) returns-3)

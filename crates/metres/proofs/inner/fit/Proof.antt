@@ -58,12 +58,6 @@ bad-pos false k e h = sym (ap (λ (b : Bool). cond b (Voxels (pos k)) Bad) (le-l
 cast-t5 : tie.Need-cast-t5
 cast-t5 c = search needs
 
-sub-t6 : tie.Need-sub-t6
-sub-t6 c = fits-64 (c .before .before .args .k) (omega arith)
-
-cast-t7 : tie.Need-cast-t7
-cast-t7 c = fits-32 (c .before .before .args .k) (omega arith)
-
 returns : tie.Need-returns
 returns c =
     let k = c .before .before .args .k in
@@ -72,9 +66,6 @@ returns c =
 
 returns-2 : tie.Need-returns-2
 returns-2 c = bad-neg (c .before .before .args .negative) (c .before .before .args .k) (c .before .if1 .taken) (omega arith)
-
-cast-t8 : tie.Need-cast-t8
-cast-t8 c = search needs
 
 returns-3 : tie.Need-returns-3
 returns-3 c =
@@ -85,4 +76,4 @@ returns-4 : tie.Need-returns-4
 returns-4 c = bad-pos (c .before .before .args .negative) (c .before .before .args .k) (c .before .if1 .left) (c .if3 .left)
 
 pub fit-spec : {M : Type 1} → statement M
-fit-spec = tie.close (tie.spec cast-t5 sub-t6 cast-t7 returns returns-2 cast-t8 returns-3 returns-4)
+fit-spec = tie.close (tie.spec cast-t5 (λ c. fits-64 (c .before .before .args .k) (omega arith)) (λ c. fits-32 (c .before .before .args .k) (omega arith)) returns returns-2 (λ c. search needs) returns-3 returns-4)

@@ -7,21 +7,6 @@ use Rattle.metres.proofs.TakenLaws.{together-taken}
 use Rattle.metres.proofs.inner.in_voxels.Statement.{statement}
 use Rattle.metres.proofs.inner.in_voxels.Tie as tie
 
-returns : tie.Need-returns
-returns c = inl (_, (c .if1 .taken, refl), refl)
-
-nearest-requires : tie.Need-nearest-requires
-nearest-requires c κs = search needs
-
-nearest-requires-2 : tie.Need-nearest-requires-2
-nearest-requires-2 c κs = search needs
-
-nearest-requires-3 : tie.Need-nearest-requires-3
-nearest-requires-3 c κs = search needs
-
-joined-requires : tie.Need-joined-requires
-joined-requires c κs = search needs
-
 returns-2 : tie.Need-returns-2
 returns-2 c =
     let z = c .before in
@@ -32,4 +17,4 @@ returns-2 c =
     subst (TakenOf (e .before .args .d)) (sym (c .joined .ensures)) taken
 
 pub in-voxels-spec : {M : Type 1} → statement M
-in-voxels-spec = tie.close (tie.spec returns nearest-requires nearest-requires-2 nearest-requires-3 joined-requires returns-2)
+in-voxels-spec = tie.close (tie.spec (λ c. inl (_, (c .if1 .taken, refl), refl)) (λ c κs. search needs) (λ c κs. search needs) (λ c κs. search needs) (λ c κs. search needs) returns-2)

@@ -14,33 +14,6 @@ use Rattle.metres.proofs.inner.joined.Tie as tie
 all-three : (x y z : Coordinate) (i j k i' j' k' : ℤ) → x ≡ Voxels i → y ≡ Voxels j → z ≡ Voxels k → i' ≡ i → j' ≡ j → k' ≡ k → TakenV.Voxels i' j' k' ≡ together x y z
 all-three x y z i j k i' j' k' ex ey ez ei ej ek = rw (ex, ey, ez, ei, ej, ek)
 
-enum-known-x : tie.Need-enum-known-x
-enum-known-x c = search needs
-
-enum-told : tie.Need-enum-told
-enum-told c = search needs
-
-returns : tie.Need-returns
-returns c = search needs
-
-enum-known-y : tie.Need-enum-known-y
-enum-known-y c = search needs
-
-enum-told-2 : tie.Need-enum-told-2
-enum-told-2 c = search needs
-
-returns-2 : tie.Need-returns-2
-returns-2 c = search needs
-
-enum-known-z : tie.Need-enum-known-z
-enum-known-z c = search needs
-
-enum-told-3 : tie.Need-enum-told-3
-enum-told-3 c = search needs
-
-returns-3 : tie.Need-returns-3
-returns-3 c = search needs
-
 returns-4 : tie.Need-returns-4
 returns-4 c =
     let gz = c .before in
@@ -59,13 +32,13 @@ pub joined-spec : {M : Type 1} → statement M
 joined-spec =
     tie.close
     (tie.spec
-    enum-known-x
-    enum-told
-    returns
-    enum-known-y
-    enum-told-2
-    returns-2
-    enum-known-z
-    enum-told-3
-    returns-3
+    (λ c. search needs)
+    (λ c. search needs)
+    (λ c. search needs)
+    (λ c. search needs)
+    (λ c. search needs)
+    (λ c. search needs)
+    (λ c. search needs)
+    (λ c. search needs)
+    (λ c. search needs)
     returns-4)

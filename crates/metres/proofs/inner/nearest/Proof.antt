@@ -8,15 +8,9 @@ use Rattle.metres.proofs.Coordinates.{negated, neg-neg, not-a-number, i
 use Rattle.metres.proofs.inner.nearest.Statement.{statement}
 use Rattle.metres.proofs.inner.nearest.Tie as tie
 
-returns : tie.Need-returns
-returns c = not-a-number (c .before .args .s) (c .before .args .d) (c .if1 .taken)
-
 of-size-requires : tie.Need-of-size-requires
 unfolding ofBits
 of-size-requires c κs = (c .before .before .pre, subst T (sym (c .if2 .taken)) tt)
-
-returns-2 : tie.Need-returns-2
-returns-2 c = search needs
 
 of-size-requires-2 : tie.Need-of-size-requires-2
 unfolding ofBits
@@ -34,4 +28,4 @@ returns-4 c =
     is-zero (start .args .s) (start .args .d) (c .before .before .if1 .left) (c .before .if2 .left) (c .if3 .left)
 
 pub nearest-spec : {M : Type 1} → statement M
-nearest-spec = tie.close (tie.spec returns of-size-requires returns-2 of-size-requires-2 returns-3 returns-4)
+nearest-spec = tie.close (tie.spec (λ c. not-a-number (c .before .args .s) (c .before .args .d) (c .if1 .taken)) of-size-requires (λ c. search needs) of-size-requires-2 returns-3 returns-4)

@@ -14,12 +14,6 @@ halved-requires c κs =
     let r = reached (c .before .args .a) (c .before .pre .1) (c .if1 .taken) in
     (c .before .pre .0, (r .0, r .1))
 
-size-requires : tie.Need-size-requires
-size-requires c κs = search needs
-
-fit-requires : tie.Need-fit-requires
-fit-requires c κs = search needs
-
 returns : tie.Need-returns
 unfolding ofBits
 returns c =
@@ -35,4 +29,4 @@ unfolding ofBits
 returns-2 c = beyond (c .before .args .s) (c .before .args .negative) (c .before .args .a) (c .before .pre .1) (c .if1 .left)
 
 pub of-size-spec : {M : Type 1} → statement M
-of-size-spec = tie.close (tie.spec halved-requires size-requires fit-requires returns returns-2)
+of-size-spec = tie.close (tie.spec halved-requires (λ c κs. search needs) (λ c κs. search needs) returns returns-2)

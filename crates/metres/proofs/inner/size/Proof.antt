@@ -25,9 +25,6 @@ not-negative : (t over : Bool) (w : ℕ) → t ≡ false → w / 2 + w % 2 ≡ s
 not-negative true over w e = absurd (true≢false e)
 not-negative false over w e = half-up w
 
-add-result : tie.Need-add-result
-add-result c = search needs
-
 returns : tie.Need-returns
 returns c =
     let a = c .before .before .args in
@@ -38,13 +35,10 @@ returns-2 c =
     let a = c .before .before .args in
     negative-whole (a .negative) (a .h .over) (a .h .whole) (c .before .if1 .taken) (c .if2 .left)
 
-add-result-2 : tie.Need-add-result-2
-add-result-2 c = search needs
-
 returns-3 : tie.Need-returns-3
 returns-3 c =
     let a = c .before .args in
     not-negative (a .negative) (a .h .over) (a .h .whole) (c .if1 .left)
 
 pub size-spec : {M : Type 1} → statement M
-size-spec = tie.close (tie.spec add-result returns returns-2 add-result-2 returns-3)
+size-spec = tie.close (tie.spec (λ c. search needs) returns returns-2 (λ c. search needs) returns-3)

@@ -4,18 +4,6 @@ use Rattle.moves.specs.Inner.{back}
 use Rattle.moves.proofs.inner.backwards.Statement.{statement}
 use Rattle.moves.proofs.inner.backwards.Tie as tie
 
-turn-requires : tie.Need-turn-requires
-turn-requires c κs = search needs
-
-turn-requires-2 : tie.Need-turn-requires-2
-turn-requires-2 c κs = search needs
-
-turn-requires-3 : tie.Need-turn-requires-3
-turn-requires-3 c κs = search needs
-
-number-of-requires : tie.Need-number-of-requires
-number-of-requires c κs = search needs
-
 returns : tie.Need-returns
 unfolding back
 returns c =
@@ -25,4 +13,4 @@ returns c =
 
 pub backwards-spec : {M : Type 1} → statement M
 backwards-spec =
-    tie.close (tie.spec turn-requires turn-requires-2 turn-requires-3 number-of-requires returns)
+    tie.close (tie.spec (λ c κs. search needs) (λ c κs. search needs) (λ c κs. search needs) (λ c κs. search needs) returns)

@@ -17,15 +17,6 @@ Inv-loop depth list x y z i₀ i = (i ≤ length list) × ((j : ℕ) → j < i �
 abbrev μ-loop : tie.MeasureT-loop
 μ-loop depth list x y z i₀ i = length list - i
 
-loop-holds : tie.Need-loop-holds Inv-loop μ-loop
-loop-holds c = (omega arith, λ j h. absurd (omega arith))
-
-mul-code : tie.Need-mul-code Inv-loop μ-loop
-mul-code c = omega arith
-
-shared-slice-read-code : tie.Need-shared-slice-read-code Inv-loop μ-loop
-shared-slice-read-code c = omega arith
-
 leaf-stays-requires : tie.Need-leaf-stays-requires Inv-loop μ-loop
 leaf-stays-requires c κs =
     let s = c .before .before .before .before in
@@ -35,12 +26,6 @@ returns : tie.Need-returns Inv-loop μ-loop
 returns c =
     let u = c .before .before .before .before .loop in
     record { within = u .inv .0; before = u .inv .1; here = λ _. sym (c .before .leaf-stays .ensures) ∙ not-true _ (c .if1 .taken) }
-
-add-i : tie.Need-add-i Inv-loop μ-loop
-add-i c = omega arith
-
-loop-less : tie.Need-loop-less Inv-loop μ-loop
-loop-less c = omega arith
 
 loop-again : tie.Need-loop-again Inv-loop μ-loop
 loop-again c =
@@ -58,12 +43,12 @@ first-leaves-spec =
     (tie.spec
     Inv-loop
     μ-loop
-    loop-holds
-    mul-code
-    shared-slice-read-code
+    (λ c. (omega arith, λ j h. absurd (omega arith)))
+    (λ c. omega arith)
+    (λ c. omega arith)
     leaf-stays-requires
     returns
-    add-i
-    loop-less
+    (λ c. omega arith)
+    (λ c. omega arith)
     loop-again
     returns-2)

@@ -6,24 +6,15 @@ use borrow.Author.Needs.{needs}
 use Rattle.moves.proofs.inner.leaf_stays.Statement.{statement}
 use Rattle.moves.proofs.inner.leaf_stays.Tie as tie
 
-axis-stays-requires : tie.Need-axis-stays-requires
-axis-stays-requires c κs = search needs
-
 returns : tie.Need-returns
 unfolding leafKeeps
 returns c = sym (rw (sym (c .before .axis-stays .ensures) ∙ not-true _ (c .if1 .taken)))
-
-axis-stays-requires-2 : tie.Need-axis-stays-requires-2
-axis-stays-requires-2 c κs = search needs
 
 returns-2 : tie.Need-returns-2
 unfolding leafKeeps
 returns-2 c =
     let p = c .before .before in
     sym (rw (sym (p .before .axis-stays .ensures) ∙ not-false _ (p .if1 .left), sym (c .before .axis-stays2 .ensures) ∙ not-true _ (c .if2 .taken)))
-
-axis-stays-requires-3 : tie.Need-axis-stays-requires-3
-axis-stays-requires-3 c κs = search needs
 
 returns-3 : tie.Need-returns-3
 unfolding leafKeeps
@@ -36,9 +27,9 @@ pub leaf-stays-spec : {M : Type 1} → statement M
 leaf-stays-spec =
     tie.close
     (tie.spec
-    axis-stays-requires
+    (λ c κs. search needs)
     returns
-    axis-stays-requires-2
+    (λ c κs. search needs)
     returns-2
-    axis-stays-requires-3
+    (λ c κs. search needs)
     returns-3)

@@ -19,23 +19,8 @@ module _ (c : tie.After-pow2) where
   down-lt : c .before .args .d .down % c .pow2 .result < c .pow2 .result
   down-lt = mod-lt (c .before .args .d .down) some
 
-pow2-requires : tie.Need-pow2-requires
-pow2-requires c κs = search needs
-
-rem-result : tie.Need-rem-result
-rem-result c = omega (arith, some c)
-
-rem-result-2 : tie.Need-rem-result-2
-rem-result-2 c = omega (arith, some c)
-
-sub-result : tie.Need-sub-result
-sub-result c = omega (arith, up-lt c)
-
 add-result : tie.Need-add-result
 add-result c = omega (arith, down-lt c, c .pow2 .ensures, pow2-small (c .before .args .depth) (c .before .pre))
-
-rem-result-3 : tie.Need-rem-result-3
-rem-result-3 c = omega (arith, some c)
 
 returns : tie.Need-returns
 unfolding turned
@@ -44,4 +29,4 @@ returns c = rw (c .pow2 .ensures)
 pub turn-spec : {M : Type 1} → statement M
 turn-spec =
     tie.close
-    (tie.spec pow2-requires rem-result rem-result-2 sub-result add-result rem-result-3 returns)
+    (tie.spec (λ c κs. search needs) (λ c. omega (arith, some c)) (λ c. omega (arith, some c)) (λ c. omega (arith, up-lt c)) add-result (λ c. omega (arith, some c)) returns)

@@ -15,29 +15,11 @@ Inv-loop answer₀ i₀ answer i = (i ≤ length answer₀) × (length answer �
 abbrev μ-loop : tie.MeasureT-loop
 μ-loop answer₀ i₀ answer i = length answer₀ - i
 
-loop-holds : tie.Need-loop-holds Inv-loop μ-loop
-loop-holds c = (omega arith, omega arith, fill-none _ 0)
-
-mul-answer : tie.Need-mul-answer Inv-loop μ-loop
-mul-answer c = omega arith
-
-slice-write-answer : tie.Need-slice-write-answer Inv-loop μ-loop
-slice-write-answer c = omega arith
-
-add-i : tie.Need-add-i Inv-loop μ-loop
-add-i c = omega arith
-
-loop-less : tie.Need-loop-less Inv-loop μ-loop
-loop-less c = omega arith
-
 loop-again : tie.Need-loop-again Inv-loop μ-loop
 loop-again c =
     let l = c .before in
     let o = l .before .args .answer .now in
     (omega arith, simp length-set (omega arith), ap (λ (x : List ℕ). set x (l .loop .i) 0) (l .loop .inv .2) ∙ fill-more (l .loop .i) 0 o (omega arith))
-
-same-length : tie.Need-same-length Inv-loop μ-loop
-same-length c = omega arith
 
 returns : tie.Need-returns Inv-loop μ-loop
 returns c =
@@ -52,11 +34,11 @@ clear-spec =
     (tie.spec
     Inv-loop
     μ-loop
-    loop-holds
-    mul-answer
-    slice-write-answer
-    add-i
-    loop-less
+    (λ c. (omega arith, omega arith, fill-none _ 0))
+    (λ c. omega arith)
+    (λ c. omega arith)
+    (λ c. omega arith)
+    (λ c. omega arith)
     loop-again
-    same-length
+    (λ c. omega arith)
     returns)

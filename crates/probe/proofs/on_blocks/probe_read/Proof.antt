@@ -6,24 +6,6 @@ use borrow.Author.Needs.{needs}
 use Rattle.probe.proofs.on_blocks.probe_read.Statement.{statement}
 use Rattle.probe.proofs.on_blocks.probe_read.Tie as tie
 
-returns : tie.Need-returns
-returns c = inl (omega arith, (refl, refl))
-
-read-requires : tie.Need-read-requires
-read-requires c κs = search needs
-
-cast-tell : tie.Need-cast-tell
-cast-tell c = search needs
-
-tell-requires : tie.Need-tell-requires
-tell-requires c κs = search needs
-
-same-length : tie.Need-same-length
-same-length c = search needs
-
-same-length-2 : tie.Need-same-length-2
-same-length-2 c = search needs
-
 returns-2 : tie.Need-returns-2
 returns-2 c =
     let t = c .before .before in
@@ -34,10 +16,10 @@ pub probe-read-spec : {M : Type 1} → statement M
 probe-read-spec =
     tie.close
     (tie.spec
-    returns
-    read-requires
-    cast-tell
-    tell-requires
-    same-length
-    same-length-2
+    (λ c. inl (omega arith, (refl, refl)))
+    (λ c κs. search needs)
+    (λ c. search needs)
+    (λ c κs. search needs)
+    (λ c. search needs)
+    (λ c. search needs)
     returns-2)

@@ -8,18 +8,6 @@ use borrow.Author.Needs.{needs}
 use Rattle.probe.proofs.on_cells.probe_neighbour.Statement.{statement}
 use Rattle.probe.proofs.on_cells.probe_neighbour.Tie as tie
 
-returns : tie.Need-returns
-returns c = inl (omega arith, refl)
-
-neighbour-requires : tie.Need-neighbour-requires
-neighbour-requires c κs = search needs
-
-tell-requires : tie.Need-tell-requires
-tell-requires c κs = search needs
-
-same-length : tie.Need-same-length
-same-length c = search needs
-
 returns-2 : tie.Need-returns-2
 returns-2 c =
     let t = c .before .before in
@@ -30,4 +18,4 @@ returns-2 c =
 
 pub probe-neighbour-spec : {M : Type 1} → statement M
 probe-neighbour-spec =
-    tie.close (tie.spec returns neighbour-requires tell-requires same-length returns-2)
+    tie.close (tie.spec (λ c. inl (omega arith, refl)) (λ c κs. search needs) (λ c κs. search needs) (λ c. search needs) returns-2)

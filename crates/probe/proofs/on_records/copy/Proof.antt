@@ -17,9 +17,6 @@ abbrev μ-loop : tie.MeasureT-loop
 loop-holds : tie.Need-loop-holds Inv-loop μ-loop
 loop-holds c = (omega arith, omega arith, omega arith, copied-none (c .args .from .now) (c .args .to .now))
 
-same-length : tie.Need-same-length Inv-loop μ-loop
-same-length c = omega arith
-
 returns : tie.Need-returns Inv-loop μ-loop
 returns c =
     let l = c .before .before in
@@ -27,33 +24,12 @@ returns c =
     let e : l .loop .i ≡ min (length (a .from .now)) (length (a .to .now)) = omega arith in
     l .loop .inv .3 ∙ ap (λ (n : ℕ). take n (a .from .now) ++ drop n (a .to .now)) e
 
-mul-to : tie.Need-mul-to Inv-loop μ-loop
-mul-to c = omega arith
-
-shared-slice-read-to : tie.Need-shared-slice-read-to Inv-loop μ-loop
-shared-slice-read-to c = omega arith
-
-mul-to-2 : tie.Need-mul-to-2 Inv-loop μ-loop
-mul-to-2 c = omega arith
-
-slice-write-to : tie.Need-slice-write-to Inv-loop μ-loop
-slice-write-to c = omega arith
-
-add-i : tie.Need-add-i Inv-loop μ-loop
-add-i c = omega arith
-
-loop-less : tie.Need-loop-less Inv-loop μ-loop
-loop-less c = omega arith
-
 loop-again : tie.Need-loop-again Inv-loop μ-loop
 loop-again c =
     let l = c .before .before .before in
     let a = l .before .args in
     let i : ℕ = l .loop .i in
     (omega arith, omega arith, simp length-set (omega arith), ap (λ (t : List ℕ). set t i (getD (a .from .now) i 0)) (l .loop .inv .3) ∙ copied-more i (a .from .now) (a .to .now) (omega arith) (omega arith))
-
-same-length-2 : tie.Need-same-length-2 Inv-loop μ-loop
-same-length-2 c = omega arith
 
 returns-2 : tie.Need-returns-2 Inv-loop μ-loop
 returns-2 c =
@@ -69,14 +45,14 @@ copy-spec =
     Inv-loop
     μ-loop
     loop-holds
-    same-length
+    (λ c. omega arith)
     returns
-    mul-to
-    shared-slice-read-to
-    mul-to-2
-    slice-write-to
-    add-i
-    loop-less
+    (λ c. omega arith)
+    (λ c. omega arith)
+    (λ c. omega arith)
+    (λ c. omega arith)
+    (λ c. omega arith)
+    (λ c. omega arith)
     loop-again
-    same-length-2
+    (λ c. omega arith)
     returns-2)

@@ -6,20 +6,8 @@ use borrow.Author.Needs.{needs}
 use Rattle.probe.proofs.on_records.probe_lookup.Statement.{statement}
 use Rattle.probe.proofs.on_records.probe_lookup.Tie as tie
 
-returns : tie.Need-returns
-returns c = inl (omega arith, refl)
-
-lookup-requires : tie.Need-lookup-requires
-lookup-requires c κs = search needs
-
-tell-requires : tie.Need-tell-requires
-tell-requires c κs = search needs
-
-same-length : tie.Need-same-length
-same-length c = search needs
-
 returns-2 : tie.Need-returns-2
 returns-2 c = let t = c .before .before in inr (omega arith, (t .before .lookup .result, t .before .lookup .ensures, t .tell .ensures))
 
 pub probe-lookup-spec : {M : Type 1} → statement M
-probe-lookup-spec = tie.close (tie.spec returns lookup-requires tell-requires same-length returns-2)
+probe-lookup-spec = tie.close (tie.spec (λ c. inl (omega arith, refl)) (λ c κs. search needs) (λ c κs. search needs) (λ c. search needs) returns-2)

@@ -9,27 +9,6 @@ use borrow.Author.Needs.{needs}
 use Rattle.probe.proofs.on_records.probe_met.Statement.{statement}
 use Rattle.probe.proofs.on_records.probe_met.Tie as tie
 
-returns : tie.Need-returns
-returns c = inl (omega arith, (refl, refl))
-
-met-requires : tie.Need-met-requires
-met-requires c κs = search needs
-
-copy-requires : tie.Need-copy-requires
-copy-requires c κs = search needs
-
-met-at-requires : tie.Need-met-at-requires
-met-at-requires c κs = search needs
-
-tell-requires : tie.Need-tell-requires
-tell-requires c κs = search needs
-
-same-length : tie.Need-same-length
-same-length c = search needs
-
-same-length-2 : tie.Need-same-length-2
-same-length-2 c = search needs
-
 returns-2 : tie.Need-returns-2
 returns-2 c =
     let t = c .before .before in
@@ -46,11 +25,11 @@ pub probe-met-spec : {M : Type 1} → statement M
 probe-met-spec =
     tie.close
     (tie.spec
-    returns
-    met-requires
-    copy-requires
-    met-at-requires
-    tell-requires
-    same-length
-    same-length-2
+    (λ c. inl (omega arith, (refl, refl)))
+    (λ c κs. search needs)
+    (λ c κs. search needs)
+    (λ c κs. search needs)
+    (λ c κs. search needs)
+    (λ c. search needs)
+    (λ c. search needs)
     returns-2)

@@ -6,21 +6,6 @@ use borrow.Author.Needs.{needs}
 use Rattle.probe.proofs.on_sets.probe_meet.Statement.{statement}
 use Rattle.probe.proofs.on_sets.probe_meet.Tie as tie
 
-returns : tie.Need-returns
-returns c = inl (omega arith, (refl, refl))
-
-meet-requires : tie.Need-meet-requires
-meet-requires c κs = search needs
-
-tell-requires : tie.Need-tell-requires
-tell-requires c κs = search needs
-
-same-length : tie.Need-same-length
-same-length c = search needs
-
-same-length-2 : tie.Need-same-length-2
-same-length-2 c = search needs
-
 returns-2 : tie.Need-returns-2
 returns-2 c =
     let t = c .before .before in
@@ -28,4 +13,4 @@ returns-2 c =
     inr (omega arith, (s .meet .result, s .meet .ensures, t .tell .ensures))
 
 pub probe-meet-spec : {M : Type 1} → statement M
-probe-meet-spec = tie.close (tie.spec returns meet-requires tell-requires same-length same-length-2 returns-2)
+probe-meet-spec = tie.close (tie.spec (λ c. inl (omega arith, (refl, refl))) (λ c κs. search needs) (λ c κs. search needs) (λ c. search needs) (λ c. search needs) returns-2)

@@ -10,9 +10,6 @@ use Rattle.records.specs.Calls.{inRoot}
 use Rattle.records.proofs.checks.in_root.Statement.{statement}
 use Rattle.records.proofs.checks.in_root.Tie as tie
 
-pow2-requires : tie.Need-pow2-requires
-pow2-requires c κs = search needs
-
 returns : tie.Need-returns
 unfolding inRoot
 returns c =
@@ -35,4 +32,4 @@ returns-3 c =
     rw (x, y) (ap (ltb (a .z)) e)
 
 pub in-root-spec : {M : Type 1} → statement M
-in-root-spec = tie.close (tie.spec pow2-requires returns returns-2 returns-3)
+in-root-spec = tie.close (tie.spec (λ c κs. search needs) returns returns-2 returns-3)

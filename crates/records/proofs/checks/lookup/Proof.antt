@@ -41,28 +41,16 @@ module _ (c : tie.Else1) where
   none : c .before .check .result .number ≡ 0
   none = search needs
 
-check-requires : tie.Need-check-requires
-check-requires c κs = search needs
-
 returns : tie.Need-returns
 returns c =
     let t = c .before in
     let a = s t .args in
     check-first (a .depth) (a .list .now) (t .check .result) (t .check .ensures) alone (NoVoxel (a .depth) (a .x) (a .y) (a .z) ∷ []) (Told t) (c .if1 .taken)
 
-in-root-requires : tie.Need-in-root-requires
-in-root-requires c κs = pass (c .before) (none c) .shallow
-
-refusal-requires : tie.Need-refusal-requires
-refusal-requires c κs = search needs
-
 returns-2 : tie.Need-returns-2
 returns-2 c =
     let p = c .before .before in
     next (p .before .before) _ (none (p .before)) (inl (_, (sym (p .in-root .ensures) ∙ not-true _ (c .before .if2 .taken), refl), c .refusal .ensures))
-
-number-of-requires : tie.Need-number-of-requires
-number-of-requires c κs = let e = c .before .before in pass (e .before) (none e) .shallow
 
 cast-is-black : tie.Need-cast-is-black
 cast-is-black c =
@@ -93,14 +81,8 @@ module _ (c : tie.After-is-black) where
       let colour = sym is ∙ c .is-black .ensures ∙ ap (black (a .depth) (a .list .now)) (c .before .number-of .ensures) in
       next (e .before) r (none e) (inr (passes (clash (sym (root .before .in-root .ensures) ∙ not-false _ (root .if2 .left))), r≡ ∙ ap (λ (t : Bool). given (bit t)) colour))
 
-success-requires : tie.Need-success-requires
-success-requires c κs = search needs
-
 returns-3 : tie.Need-returns-3
 returns-3 c = told (c .before .before) _ _ (c .before .if3 .taken) (c .success .ensures)
-
-success-requires-2 : tie.Need-success-requires-2
-success-requires-2 c κs = search needs
 
 returns-4 : tie.Need-returns-4
 returns-4 c = told (c .before .before) _ _ (c .before .if3 .left) (c .success2 .ensures)
@@ -109,15 +91,15 @@ pub lookup-spec : {M : Type 1} → statement M
 lookup-spec =
     tie.close
     (tie.spec
-    check-requires
+    (λ c κs. search needs)
     returns
-    in-root-requires
-    refusal-requires
+    (λ c κs. pass (c .before) (none c) .shallow)
+    (λ c κs. search needs)
     returns-2
-    number-of-requires
+    (λ c κs. let e = c .before .before in pass (e .before) (none e) .shallow)
     cast-is-black
     is-black-requires
-    success-requires
+    (λ c κs. search needs)
     returns-3
-    success-requires-2
+    (λ c κs. search needs)
     returns-4)

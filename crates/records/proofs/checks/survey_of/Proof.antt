@@ -10,19 +10,10 @@ use Rattle.records.proofs.Walks.{found-refuses, found-passes}
 use Rattle.records.proofs.checks.survey_of.Statement.{statement}
 use Rattle.records.proofs.checks.survey_of.Tie as tie
 
-refusal-requires : tie.Need-refusal-requires
-refusal-requires c κs = search needs
-
 returns : tie.Need-returns
 returns c =
     let e = c .refusal .ensures in
     record { tells = inl (_, (c .before .if1 .taken, refl), e); is-voxels = λ z. absurd (omega (arith, ap (λ (a : Answer). a .number) e)) }
-
-judge-requires : tie.Need-judge-requires
-judge-requires c κs = search needs
-
-refusal-requires-2 : tie.Need-refusal-requires-2
-refusal-requires-2 c κs = search needs
 
 returns-2 : tie.Need-returns-2
 returns-2 c =
@@ -34,9 +25,6 @@ returns-2 c =
       tells = inr (passes (deep-enough (q .before .if1 .left)), inl (_, found-refuses (a .depth) (a .list .now) (q .judge .result) (q .judge .ensures) 1 some, e));
       is-voxels = λ z. absurd (some (ap (λ (a : Answer). a .number) (sym e) ∙ z));
     }
-
-success-requires : tie.Need-success-requires
-success-requires c κs = search needs
 
 returns-3 : tie.Need-returns-3
 returns-3 c =
@@ -54,10 +42,10 @@ pub survey-of-spec : {M : Type 1} → statement M
 survey-of-spec =
     tie.close
     (tie.spec
-    refusal-requires
+    (λ c κs. search needs)
     returns
-    judge-requires
-    refusal-requires-2
+    (λ c κs. search needs)
+    (λ c κs. search needs)
     returns-2
-    success-requires
+    (λ c κs. search needs)
     returns-3)

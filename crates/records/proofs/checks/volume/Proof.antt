@@ -16,21 +16,12 @@ module _ (c : tie.After-answer) where
   abbrev Told : Answer → Type 0
   Told r = r ≡ given (blacks (s .args .depth) (s .args .list .now))
 
-survey-of-requires : tie.Need-survey-of-requires
-survey-of-requires c κs = search needs
-
 returns : tie.Need-returns
 returns c =
     let t = c .before in
     let a = s t .args in
     let r = t .before .survey-of in
     check-first (a .depth) (a .list .now) (r .result .answer) (r .ensures .tells) alone [] (Told t) (c .if1 .taken)
-
-cast-success : tie.Need-cast-success
-cast-success c = search needs
-
-success-requires : tie.Need-success-requires
-success-requires c κs = search needs
 
 returns-2 : tie.Need-returns-2
 returns-2 c =
@@ -44,4 +35,4 @@ returns-2 c =
 
 pub volume-spec : {M : Type 1} → statement M
 volume-spec =
-    tie.close (tie.spec survey-of-requires returns cast-success success-requires returns-2)
+    tie.close (tie.spec (λ c κs. search needs) returns (λ c. search needs) (λ c κs. search needs) returns-2)

@@ -4,8 +4,5 @@ use Rattle.records.proofs.Walks.{begins}
 use Rattle.records.proofs.inner.begin.Statement.{statement}
 use Rattle.records.proofs.inner.begin.Tie as tie
 
-returns : tie.Need-returns
-returns c = λ D l. begins D l _ refl refl refl refl
-
 pub begin-spec : {M : Type 1} → statement M
-begin-spec = tie.close (tie.spec returns)
+begin-spec = tie.close (tie.spec (λ c. λ D l. begins D l _ refl refl refl refl))

@@ -26,21 +26,6 @@ abbrev μ-loop : tie.MeasureT-loop
 loop-holds : tie.Need-loop-holds Inv-loop μ-loop
 loop-holds c = record { from = omega arith; order = omega arith; to = omega arith; below = λ i p q. absurd (omega arith); above = λ i p q. absurd (omega arith) }
 
-sub-mid : tie.Need-sub-mid Inv-loop μ-loop
-sub-mid c = search needs
-
-add-mid : tie.Need-add-mid Inv-loop μ-loop
-add-mid c = search needs
-
-cast-at : tie.Need-cast-at Inv-loop μ-loop
-cast-at c = search needs
-
-mul-c : tie.Need-mul-c Inv-loop μ-loop
-mul-c c = search needs
-
-shared-slice-read-c : tie.Need-shared-slice-read-c Inv-loop μ-loop
-shared-slice-read-c c = search needs
-
 -- ---- the leaf in the middle
 
 module _ (c : tie.In-loop Inv-loop μ-loop) where
@@ -64,12 +49,6 @@ first-requires c κs =
     let t = c .before in
     (s t .pre .0, proper-at (s t .args .depth) (s t .args .l .now) (s t .pre .1) (mid t) (within t))
 
-add-a : tie.Need-add-a Inv-loop μ-loop
-add-a c = search needs
-
-loop-less : tie.Need-loop-less Inv-loop μ-loop
-loop-less c = search needs
-
 loop-again : tie.Need-loop-again Inv-loop μ-loop
 loop-again c =
     let t = c .before .before .before in
@@ -83,9 +62,6 @@ loop-again c =
       below = λ i p q. omega (arith, starts-rise (a .depth) (a .l .now) o i (mid t) (omega arith) (within t), c .if1 .taken, c .before .first .ensures);
       above = v .above;
     }
-
-loop-less-2 : tie.Need-loop-less-2 Inv-loop μ-loop
-loop-less-2 c = search needs
 
 loop-again-2 : tie.Need-loop-again-2 Inv-loop μ-loop
 loop-again-2 c =
@@ -113,15 +89,15 @@ first-from-spec =
     Inv-loop
     μ-loop
     loop-holds
-    sub-mid
-    add-mid
-    cast-at
-    mul-c
-    shared-slice-read-c
+    (λ c. search needs)
+    (λ c. search needs)
+    (λ c. search needs)
+    (λ c. search needs)
+    (λ c. search needs)
     first-requires
-    add-a
-    loop-less
+    (λ c. search needs)
+    (λ c. search needs)
     loop-again
-    loop-less-2
+    (λ c. search needs)
     loop-again-2
     returns)

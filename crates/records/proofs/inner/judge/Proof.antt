@@ -15,18 +15,6 @@ Inv-loop depth list walk₀ i₀ walk i = (i ≤ length list) × Walked depth li
 abbrev μ-loop : tie.MeasureT-loop
 μ-loop depth list walk₀ i₀ walk i = length list - i
 
-begin-requires : tie.Need-begin-requires Inv-loop μ-loop
-begin-requires c κs = search needs
-
-loop-holds : tie.Need-loop-holds Inv-loop μ-loop
-loop-holds c = (search needs, c .begin .ensures _ _)
-
-mul-step : tie.Need-mul-step Inv-loop μ-loop
-mul-step c = search needs
-
-shared-slice-read-step : tie.Need-shared-slice-read-step Inv-loop μ-loop
-shared-slice-read-step c = search needs
-
 step-requires : tie.Need-step-requires Inv-loop μ-loop
 step-requires c κs =
     let s = c .before .before .before .before .before in
@@ -52,12 +40,6 @@ returns c =
     let w = o p .loop in
     found-fault (a .depth) (a .list .now) (w .i) (w .walk) (w .inv .1) (p .step .result) (told p) (p .before .before .loop-test .taken) (c .if1 .taken) _ refl refl
 
-add-i : tie.Need-add-i Inv-loop μ-loop
-add-i c = search needs
-
-loop-less : tie.Need-loop-less Inv-loop μ-loop
-loop-less c = search needs
-
 loop-again : tie.Need-loop-again Inv-loop μ-loop
 loop-again c =
     let p = c .before in
@@ -77,13 +59,13 @@ judge-spec =
     (tie.spec
     Inv-loop
     μ-loop
-    begin-requires
-    loop-holds
-    mul-step
-    shared-slice-read-step
+    (λ c κs. search needs)
+    (λ c. (search needs, c .begin .ensures _ _))
+    (λ c. search needs)
+    (λ c. search needs)
     step-requires
     returns
-    add-i
-    loop-less
+    (λ c. search needs)
+    (λ c. search needs)
     loop-again
     returns-2)

@@ -16,18 +16,6 @@ use Rattle.records.proofs.inner.last_reaches.Tie as tie
 returns : tie.Need-returns
 returns c = let a = c .before .before .args in sym (reaches-none (a .depth) (a .l .now) (a .at) (a .v) (c .if1 .taken))
 
-sub-place : tie.Need-sub-place
-sub-place c = search needs
-
-cast-place : tie.Need-cast-place
-cast-place c = search needs
-
-mul-c : tie.Need-mul-c
-mul-c c = search needs
-
-shared-slice-read-c : tie.Need-shared-slice-read-c
-shared-slice-read-c c = search needs
-
 -- ---- the leaf before the place
 
 module _ (c : tie.Else1) where
@@ -39,12 +27,6 @@ module _ (c : tie.Else1) where
 
   is : proper (s .args .depth) leaf ≡ true
   is = proper-at (s .args .depth) (s .args .l .now) (s .pre .1) (s .args .at - 1) (omega (arith, c .if1 .left, s .pre .2))
-
-first-requires : tie.Need-first-requires
-first-requires c κs = let u = c .before in (s u .pre .0, is u)
-
-width-requires : tie.Need-width-requires
-width-requires c κs = let u = c .before .before in (s u .pre .0, is u)
 
 add-result : tie.Need-add-result
 add-result c =
@@ -63,11 +45,11 @@ last-reaches-spec =
     tie.close
     (tie.spec
     returns
-    sub-place
-    cast-place
-    mul-c
-    shared-slice-read-c
-    first-requires
-    width-requires
+    (λ c. search needs)
+    (λ c. search needs)
+    (λ c. search needs)
+    (λ c. search needs)
+    (λ c κs. let u = c .before in (s u .pre .0, is u))
+    (λ c κs. let u = c .before .before in (s u .pre .0, is u))
     add-result
     returns-2)

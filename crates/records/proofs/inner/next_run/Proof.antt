@@ -12,12 +12,6 @@ returns c = let s = c .before .args in sym (next-one (s .last) (s .run) (s .code
 returns-2 : tie.Need-returns-2
 returns-2 c = let s = c .before .before .args in sym (next-none (s .last) (s .run) (s .code) (c .before .if1 .left) (c .if2 .taken))
 
-sub-if3 : tie.Need-sub-if3
-sub-if3 c = search needs
-
-add-result : tie.Need-add-result
-add-result c = search needs
-
 returns-3 : tie.Need-returns-3
 returns-3 c =
     let s = c .before .before .before .args in
@@ -29,4 +23,4 @@ returns-4 c =
     sym (next-cut (s .last) (s .run) (s .code) (c .before .before .if1 .left) (omega (arith, c .before .if2 .left)) (c .if3 .left))
 
 pub next-run-spec : {M : Type 1} → statement M
-next-run-spec = tie.close (tie.spec returns returns-2 sub-if3 add-result returns-3 returns-4)
+next-run-spec = tie.close (tie.spec returns returns-2 (λ c. search needs) (λ c. search needs) returns-3 returns-4)

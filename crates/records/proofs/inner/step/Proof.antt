@@ -33,23 +33,11 @@ module _ (c : tie.Else2) where
   late : s t .args .walk .past ≤ start (s t .args .depth) (s t .args .code)
   late = omega (arith, c .before .before .first .ensures, c .if2 .left)
 
-is-proper-requires : tie.Need-is-proper-requires
-is-proper-requires c κs = search needs
-
-ended-requires : tie.Need-ended-requires
-ended-requires c κs = search needs
-
 returns : tie.Need-returns
 returns c =
     let a = c .before .before .before .args in
     let p = sym (c .before .before .is-proper .ensures) ∙ not-true _ (c .before .if1 .taken) in
     λ l i w e. stops (a .depth) l i (a .walk) (a .code) w e _ 2 (c .ended .ensures) (λ z. omega arith) (improper (a .depth) l i (a .walk) (a .code) w e p)
-
-first-requires : tie.Need-first-requires
-first-requires c κs = (s c .pre .0, is c)
-
-ended-requires-2 : tie.Need-ended-requires-2
-ended-requires-2 c κs = search needs
 
 returns-2 : tie.Need-returns-2
 returns-2 c =
@@ -58,21 +46,12 @@ returns-2 c =
     let h : start (a .depth) (a .code) < a .walk .past = omega (arith, c .before .before .before .first .ensures, c .before .if2 .taken) in
     λ l i w e. stops (a .depth) l i (a .walk) (a .code) w e _ 3 (c .ended2 .ensures) (λ z. omega arith) (too-early (a .depth) l i (a .walk) (a .code) w e (is u) h)
 
-next-run-requires : tie.Need-next-run-requires
-next-run-requires c κs = search needs
-
-ended-requires-3 : tie.Need-ended-requires-3
-ended-requires-3 c κs = search needs
-
 returns-3 : tie.Need-returns-3
 returns-3 c =
     let q = c .before .before .before in
     let a = s (t q) .args in
     let r = sym (c .before .before .next-run .ensures) ∙ c .before .if3 .taken in
     λ l i w e. stops (a .depth) l i (a .walk) (a .code) w e _ 4 (c .ended3 .ensures) (λ z. omega arith) (eighth (a .depth) l i (a .walk) (a .code) w e (is (t q)) (late q) r)
-
-width-requires : tie.Need-width-requires
-width-requires c κs = let u = t (c .before .before) in (s u .pre .0, is u)
 
 add-t9 : tie.Need-add-t9
 add-t9 c =
@@ -97,16 +76,16 @@ pub step-spec : {M : Type 1} → statement M
 step-spec =
     tie.close
     (tie.spec
-    is-proper-requires
-    ended-requires
+    (λ c κs. search needs)
+    (λ c κs. search needs)
     returns
-    first-requires
-    ended-requires-2
+    (λ c κs. (s c .pre .0, is c))
+    (λ c κs. search needs)
     returns-2
-    next-run-requires
-    ended-requires-3
+    (λ c κs. search needs)
+    (λ c κs. search needs)
     returns-3
-    width-requires
+    (λ c κs. let u = t (c .before .before) in (s u .pre .0, is u))
     add-t9
     add-t10
     returns-4)

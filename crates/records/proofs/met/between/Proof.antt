@@ -7,12 +7,6 @@ use Rattle.records.specs.declared.met.Meeting.{Meeting}
 use Rattle.records.proofs.met.between.Statement.{statement}
 use Rattle.records.proofs.met.between.Tie as tie
 
-success-requires : tie.Need-success-requires
-success-requires c κs = search needs
-
-sub-t5 : tie.Need-sub-t5
-sub-t5 c = search needs
-
 returns : tie.Need-returns
 returns c =
     let a = c .before .args in
@@ -20,4 +14,4 @@ returns c =
     ap m (c .success .ensures)
 
 pub between-spec : {M : Type 1} → statement M
-between-spec = tie.close (tie.spec success-requires sub-t5 returns)
+between-spec = tie.close (tie.spec (λ c κs. search needs) (λ c. search needs) returns)

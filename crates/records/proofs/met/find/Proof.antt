@@ -86,23 +86,11 @@ module _ (c : tie.Else2) where
       let m = n .neighbour .result .place in
       omega (arith, proper-bounds D m (is-next .is-proper) .1, pow8-small (level D m) (omega (arith, level-le D m, pass (n .before) .shallow)))
 
-check-requires : tie.Need-check-requires
-check-requires c κs = search needs
-
-none-requires : tie.Need-none-requires
-none-requires c κs = search needs
-
 returns : tie.Need-returns
 returns c =
     let t = c .before .before in
     let a = s t .args in
     rw (c .none .ensures) (check-first (a .depth) (a .list .now) (t .check .result) (t .check .ensures) unmet (rest t) (Told t) (c .before .if1 .taken))
-
-neighbour-requires : tie.Need-neighbour-requires
-neighbour-requires c κs = search needs
-
-none-requires-2 : tie.Need-none-requires-2
-none-requires-2 c κs = search needs
 
 returns-2 : tie.Need-returns-2
 returns-2 c =
@@ -116,9 +104,6 @@ cast-part c =
     let e = c .before .before in
     let k = pass e in
     omega (arith, k .is-length, k .few, pow8-small (s (e .before) .args .depth) (k .shallow))
-
-cast-part-2 : tie.Need-cast-part-2
-cast-part-2 c = omega (arith, small c)
 
 part-requires : tie.Need-part-requires
 part-requires c κs =
@@ -136,13 +121,13 @@ pub find-spec : {M : Type 1} → statement M
 find-spec =
     tie.close
     (tie.spec
-    check-requires
-    none-requires
+    (λ c κs. search needs)
+    (λ c κs. search needs)
     returns
-    neighbour-requires
-    none-requires-2
+    (λ c κs. search needs)
+    (λ c κs. search needs)
     returns-2
     cast-part
-    cast-part-2
+    (λ c. omega (arith, small c))
     part-requires
     returns-3)

@@ -35,30 +35,6 @@ module _ (c : tie.After-find) where
   within : at + n ≤ length (s .args .list .now)
   within = let a = s .args in within-list (a .depth) (a .list .now) (a .code) (a .dx) (a .dy) (a .dz) at n part
 
-find-requires : tie.Need-find-requires
-find-requires c κs = search needs
-
-cast-at : tie.Need-cast-at
-cast-at c = search needs
-
-cast-end : tie.Need-cast-end
-cast-end c = search needs
-
-add-end : tie.Need-add-end
-add-end c = search needs
-
-mul-result : tie.Need-mul-result
-mul-result c = search needs
-
-sub-result : tie.Need-sub-result
-sub-result c = search needs
-
-part-result-start : tie.Need-part-result-start
-part-result-start c = search needs
-
-part-result-end : tie.Need-part-result-end
-part-result-end c = within (c .before .before)
-
 returns : tie.Need-returns
 returns c =
     let f = c .before .before .before in
@@ -77,12 +53,12 @@ pub met-spec : {M : Type 1} → statement M
 met-spec =
     tie.close
     (tie.spec
-    find-requires
-    cast-at
-    cast-end
-    add-end
-    mul-result
-    sub-result
-    part-result-start
-    part-result-end
+    (λ c κs. search needs)
+    (λ c. search needs)
+    (λ c. search needs)
+    (λ c. search needs)
+    (λ c. search needs)
+    (λ c. search needs)
+    (λ c. search needs)
+    (λ c. within (c .before .before))
     returns)

@@ -7,9 +7,6 @@ use Rattle.records.proofs.MetLaws.{answer-of}
 use Rattle.records.proofs.met.met_at.Statement.{statement}
 use Rattle.records.proofs.met.met_at.Tie as tie
 
-find-requires : tie.Need-find-requires
-find-requires c κs = search needs
-
 returns : tie.Need-returns
 returns c =
     let s = c .before .before .before in
@@ -19,4 +16,4 @@ returns c =
     answer-of (a .depth) (a .list .now) (a .code) (a .dx) (a .dy) (a .dz) (c .before .find .result) d
 
 pub met-at-spec : {M : Type 1} → statement M
-met-at-spec = tie.close (tie.spec find-requires returns)
+met-at-spec = tie.close (tie.spec (λ c κs. search needs) returns)

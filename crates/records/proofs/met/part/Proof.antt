@@ -18,14 +18,8 @@ use Rattle.records.proofs.Search.{starts-same, reaches-true, part-from,
 use Rattle.records.proofs.met.part.Statement.{statement}
 use Rattle.records.proofs.met.part.Tie as tie
 
-first-requires : tie.Need-first-requires
-first-requires c κs = search needs
-
 first-from-requires : tie.Need-first-from-requires
 first-from-requires c κs = let s = c .before .before in (s .pre .0, s .pre .1, omega arith, omega (arith, s .pre .2))
-
-width-requires : tie.Need-width-requires
-width-requires c κs = search needs
 
 add-first-from : tie.Need-add-first-from
 add-first-from c =
@@ -85,20 +79,11 @@ module _ (c : tie.After-last-reaches) where
 told : (D : ℕ) (l : List ℕ) (m a n : ℕ) (r : Meeting) → r ≡ placed a n → MetPart D l m a n → Together D l m r
 told D l m a n r e p = rw e (record { part = p; tells = refl })
 
-sub-between : tie.Need-sub-between
-sub-between c = omega (arith, some (c .before) (c .if1 .taken))
-
-between-requires : tie.Need-between-requires
-between-requires c κs = omega (arith, ends (c .before) .low)
-
 returns : tie.Need-returns
 returns c =
     let t = c .before .before in
     let e = sym (tested t) ∙ c .before .if1 .taken in
     told (D t) (l t) (s t .args .m) (at t - 1) (to t - (at t - 1)) _ (c .between .ensures) (part-before (D t) (l t) (s t .pre .1) (s t .args .m) (at t) (to t) (begins t) (ends t) e)
-
-between-requires-2 : tie.Need-between-requires-2
-between-requires-2 c κs = ends (c .before) .low
 
 returns-2 : tie.Need-returns-2
 returns-2 c =
@@ -110,14 +95,14 @@ pub part-spec : {M : Type 1} → statement M
 part-spec =
     tie.close
     (tie.spec
-    first-requires
+    (λ c κs. search needs)
     first-from-requires
-    width-requires
+    (λ c κs. search needs)
     add-first-from
     first-from-requires-2
     last-reaches-requires
-    sub-between
-    between-requires
+    (λ c. omega (arith, some (c .before) (c .if1 .taken)))
+    (λ c κs. omega (arith, ends (c .before) .low))
     returns
-    between-requires-2
+    (λ c κs. ends (c .before) .low)
     returns-2)

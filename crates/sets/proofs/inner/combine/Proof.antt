@@ -9,15 +9,6 @@ use Rattle.sets.proofs.Pieces.{exactly}
 use Rattle.sets.proofs.inner.combine.Statement.{statement}
 use Rattle.sets.proofs.inner.combine.Tie as tie
 
-sweep-requires : tie.Need-sweep-requires
-sweep-requires c κs = search needs
-
-refusal-requires : tie.Need-refusal-requires
-refusal-requires c κs = search needs
-
-same-length : tie.Need-same-length
-same-length c = search needs
-
 returns : tie.Need-returns
 returns c =
     let a = c .before .before .before .before .before .before .before .before .before .args in
@@ -25,15 +16,6 @@ returns c =
     let Q = Taken (a .op) (a .depth) (a .a .now) (a .b .now) in
     subst (λ (r : Answer). Told (a .depth) Q (a .out .now) (r, w .last .1 .1 .1 .1 .0)) (sym (c .refusal .ensures))
     (crowded (a .depth) (both (a .op) (a .depth) (a .a .now) (a .b .now)) Q (exactly (a .op) (a .depth) (a .a .now) (a .b .now)) (a .out .now) (w .last .1 .1 .1 .1 .0) (w .result) (w .ensures) (c .before .if1 .taken))
-
-sweep-requires-2 : tie.Need-sweep-requires-2
-sweep-requires-2 c κs = search needs
-
-success-requires : tie.Need-success-requires
-success-requires c κs = search needs
-
-same-length-2 : tie.Need-same-length-2
-same-length-2 c = search needs
 
 returns-2 : tie.Need-returns-2
 returns-2 c =
@@ -49,11 +31,11 @@ pub combine-spec : {M : Type 1} → statement M
 combine-spec =
     tie.close
     (tie.spec
-    sweep-requires
-    refusal-requires
-    same-length
+    (λ c κs. search needs)
+    (λ c κs. search needs)
+    (λ c. search needs)
     returns
-    sweep-requires-2
-    success-requires
-    same-length-2
+    (λ c κs. search needs)
+    (λ c κs. search needs)
+    (λ c. search needs)
     returns-2)

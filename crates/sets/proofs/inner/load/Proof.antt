@@ -11,19 +11,10 @@ use Rattle.sets.proofs.Cursors.{head-proper, points-end, points-at}
 use Rattle.sets.proofs.inner.load.Statement.{statement}
 use Rattle.sets.proofs.inner.load.Tie as tie
 
-pow8-requires : tie.Need-pow8-requires
-pow8-requires c κs = search needs
-
 returns : tie.Need-returns
 returns c = λ v b.
     let s = c .before .before .before in
     points-end (s .args .depth) (s .args .list .now) (s .args .i) v (c .before .pow8 .result) (c .before .pow8 .ensures) (c .if1 .taken) b
-
-mul-code : tie.Need-mul-code
-mul-code c = search needs
-
-shared-slice-read-code : tie.Need-shared-slice-read-code
-shared-slice-read-code c = search needs
 
 width-requires : tie.Need-width-requires
 width-requires c κs =
@@ -52,15 +43,6 @@ module _ (c : tie.After-width) where
       let e : code * w ≡ 8 ^ depth + start depth code = ap (λ (x : ℕ). code * x) (c .width .ensures) ∙ interval depth code p in
       omega (arith, e, c .before .before .before .pow8 .ensures, c .width .ensures, within depth code p, pow8-small depth (begun .pre .0), span-pos depth code)
 
-mul-from : tie.Need-mul-from
-mul-from c = omega (arith, numbers c)
-
-sub-from : tie.Need-sub-from
-sub-from c = omega (arith, numbers c)
-
-add-t12 : tie.Need-add-t12
-add-t12 c = omega (arith, numbers c)
-
 returns-2 : tie.Need-returns-2
 returns-2 c = λ v b.
     let s = begun c in
@@ -72,12 +54,12 @@ pub load-spec : {M : Type 1} → statement M
 load-spec =
     tie.close
     (tie.spec
-    pow8-requires
+    (λ c κs. search needs)
     returns
-    mul-code
-    shared-slice-read-code
+    (λ c. search needs)
+    (λ c. search needs)
     width-requires
-    mul-from
-    sub-from
-    add-t12
+    (λ c. omega (arith, numbers c))
+    (λ c. omega (arith, numbers c))
+    (λ c. omega (arith, numbers c))
     returns-2)

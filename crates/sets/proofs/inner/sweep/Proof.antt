@@ -20,9 +20,6 @@ Inv-loop op depth a b out₀ write full r₀ x₀ y₀ v₀ out r x y v = Swept 
 abbrev μ-loop : tie.MeasureT-loop
 μ-loop op depth a b out₀ write full r₀ x₀ y₀ v₀ out r x y v = full - v
 
-pow8-requires : tie.Need-pow8-requires Inv-loop μ-loop
-pow8-requires c κs = c .before .before .before .pre .0
-
 load-requires : tie.Need-load-requires Inv-loop μ-loop
 load-requires c κs =
     let s = c .before .before .before .before in
@@ -32,9 +29,6 @@ load-requires-2 : tie.Need-load-requires-2 Inv-loop μ-loop
 load-requires-2 c κs =
     let s = c .before .before .before .before .before in
     (s .pre .0, (0, behind-none (s .args .depth) (s .args .b .now) (s .pre .2)))
-
-least-requires : tie.Need-least-requires Inv-loop μ-loop
-least-requires c κs = tt
 
 loop-holds : tie.Need-loop-holds Inv-loop μ-loop
 loop-holds c =
@@ -48,18 +42,6 @@ loop-holds c =
       left = x .ensures 0 (behind-none (a .depth) (a .a .now) (s .pre .1));
       right = y .ensures 0 (behind-none (a .depth) (a .b .now) (s .pre .2));
     })
-
-look-requires : tie.Need-look-requires Inv-loop μ-loop
-look-requires c κs = tt
-
-look-requires-2 : tie.Need-look-requires-2 Inv-loop μ-loop
-look-requires-2 c κs = tt
-
-least-requires-2 : tie.Need-least-requires-2 Inv-loop μ-loop
-least-requires-2 c κs = tt
-
-takes-requires : tie.Need-takes-requires Inv-loop μ-loop
-takes-requires c κs = tt
 
 -- what a turn looks at
 module _ (c : tie.After-least2 Inv-loop μ-loop) where
@@ -98,12 +80,6 @@ pass-requires-2 c κs =
     let u = c .before .before .before .before .before .before in
     let p = turn u in
     (begun u .pre .0, p .right, (head u .loop .v, omega (arith, p .some), head u .loop .inv .right))
-
-least-requires-3 : tie.Need-least-requires-3 Inv-loop μ-loop
-least-requires-3 c κs = tt
-
-greatest-requires : tie.Need-greatest-requires Inv-loop μ-loop
-greatest-requires c κs = tt
 
 loop-less : tie.Need-loop-less Inv-loop μ-loop
 loop-less c =
@@ -160,31 +136,28 @@ same-length c =
     let r = result c in
     ap length (r .written) ∙ puts-length (a .write) (a .out .now) 0 (r .cells)
 
-returns : tie.Need-returns Inv-loop μ-loop
-returns c = result c
-
 pub sweep-spec : {M : Type 1} → statement M
 sweep-spec =
     tie.close
     (tie.spec
     Inv-loop
     μ-loop
-    pow8-requires
+    (λ c κs. c .before .before .before .pre .0)
     load-requires
     load-requires-2
-    least-requires
+    (λ c κs. tt)
     loop-holds
-    look-requires
-    look-requires-2
-    least-requires-2
-    takes-requires
+    (λ c κs. tt)
+    (λ c κs. tt)
+    (λ c κs. tt)
+    (λ c κs. tt)
     push-requires
     pass-requires
     pass-requires-2
-    least-requires-3
-    greatest-requires
+    (λ c κs. tt)
+    (λ c κs. tt)
     loop-less
     loop-again
     finish-requires
     same-length
-    returns)
+    (λ c. result c))

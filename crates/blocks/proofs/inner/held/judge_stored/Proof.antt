@@ -18,12 +18,6 @@ Inv-loop depth bytes n walk₀ i₀ walk i = (i ≤ n) × Walked depth (codes by
 abbrev μ-loop : tie.MeasureT-loop
 μ-loop depth bytes n walk₀ i₀ walk i = n - i
 
-begin-requires : tie.Need-begin-requires Inv-loop μ-loop
-begin-requires c κs = search needs
-
-loop-holds : tie.Need-loop-holds Inv-loop μ-loop
-loop-holds c = (search needs, c .begin .ensures _ _)
-
 code-at-requires : tie.Need-code-at-requires Inv-loop μ-loop
 code-at-requires c κs =
     let s = c .before .before .before .before in
@@ -58,12 +52,6 @@ returns c =
     let w = o p .loop in
     found-fault (a .depth) (codes (a .bytes .now)) (w .i) (w .walk) (w .inv .1) (p .step .result) (told p) (omega (arith, there p, codes-length (a .bytes .now))) (c .if1 .taken) _ refl refl
 
-add-i : tie.Need-add-i Inv-loop μ-loop
-add-i c = search needs
-
-loop-less : tie.Need-loop-less Inv-loop μ-loop
-loop-less c = search needs
-
 loop-again : tie.Need-loop-again Inv-loop μ-loop
 loop-again c =
     let p = c .before in
@@ -84,12 +72,12 @@ judge-stored-spec =
     (tie.spec
     Inv-loop
     μ-loop
-    begin-requires
-    loop-holds
+    (λ c κs. search needs)
+    (λ c. (search needs, c .begin .ensures _ _))
     code-at-requires
     step-requires
     returns
-    add-i
-    loop-less
+    (λ c. search needs)
+    (λ c. search needs)
     loop-again
     returns-2)

@@ -38,15 +38,6 @@ module _ (c : tie.After-judge-stored) where
   judged : Found (depthOf (b e)) (codes (b e)) (c .judge-stored .result)
   judged = subst (λ (d : ℕ). Found d (codes (b e)) (c .judge-stored .result)) is-depth (c .judge-stored .ensures)
 
-soundness-of-requires : tie.Need-soundness-of-requires
-soundness-of-requires c κs = search needs
-
-refusal-requires : tie.Need-refusal-requires
-refusal-requires c κs = search needs
-
-no-survey-requires : tie.Need-no-survey-requires
-no-survey-requires c κs = search needs
-
 returns : tie.Need-returns
 returns c =
     let t = c .before .before .before .before .soundness-of .ensures in
@@ -58,21 +49,12 @@ returns c =
       is-voxels = λ z. absurd (omega arith);
     }
 
-leaves-of-requires : tie.Need-leaves-of-requires
-leaves-of-requires c κs = (is-sound c, c .before .before .soundness-of .ensures .1)
-
 word-at-requires : tie.Need-word-at-requires
 word-at-requires c κs = let s = is-sound (c .before) in omega (arith, some-block (b (c .before)) s, all-blocks (b (c .before)) s)
 
 judge-stored-requires : tie.Need-judge-stored-requires
 unfolding depthOf
 judge-stored-requires c κs = (is-sound (c .before .before), c .word-at .ensures, c .before .leaves-of .ensures)
-
-refusal-requires-2 : tie.Need-refusal-requires-2
-refusal-requires-2 c κs = search needs
-
-no-survey-requires-2 : tie.Need-no-survey-requires-2
-no-survey-requires-2 c κs = search needs
 
 returns-2 : tie.Need-returns-2
 returns-2 c =
@@ -85,9 +67,6 @@ returns-2 c =
       is-depth = λ z. absurd (none z);
       is-voxels = λ z. absurd (none z);
     }
-
-success-requires : tie.Need-success-requires
-success-requires c κs = search needs
 
 returns-3 : tie.Need-returns-3
 returns-3 c =
@@ -108,15 +87,15 @@ pub survey-of-spec : {M : Type 1} → statement M
 survey-of-spec =
     tie.close
     (tie.spec
-    soundness-of-requires
-    refusal-requires
-    no-survey-requires
+    (λ c κs. search needs)
+    (λ c κs. search needs)
+    (λ c κs. search needs)
     returns
-    leaves-of-requires
+    (λ c κs. (is-sound c, c .before .before .soundness-of .ensures .1))
     word-at-requires
     judge-stored-requires
-    refusal-requires-2
-    no-survey-requires-2
+    (λ c κs. search needs)
+    (λ c κs. search needs)
     returns-2
-    success-requires
+    (λ c κs. search needs)
     returns-3)

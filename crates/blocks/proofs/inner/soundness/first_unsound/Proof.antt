@@ -48,12 +48,6 @@ returns c =
     (ap not (sym (same b (L .i) (s .args .n) (c .before .before .before .before .word-at .result) (s .pre .0) (L .inv .1)) ∙ sym (c .before .is-sound .ensures) ∙ not-true _ (c .if1 .taken)))
     (λ k h. ap not (L .inv .2 k h)))
 
-add-i : tie.Need-add-i Inv-loop μ-loop
-add-i c = omega arith
-
-loop-less : tie.Need-loop-less Inv-loop μ-loop
-loop-less c = omega arith
-
 loop-again : tie.Need-loop-again Inv-loop μ-loop
 loop-again c =
     let s = c .before .before .before .before .before .before in
@@ -80,7 +74,7 @@ first-unsound-spec =
     loop-holds
     is-sound-requires
     returns
-    add-i
-    loop-less
+    (λ c. omega arith)
+    (λ c. omega arith)
     loop-again
     returns-2)

@@ -77,41 +77,17 @@ module _ (c : tie.After-unused-zero) where
 
 -- ---- the needs
 
-word-at-requires : tie.Need-word-at-requires
-word-at-requires c κs = search needs
-
-cast-if1 : tie.Need-cast-if1
-cast-if1 c = search needs
-
 returns : tie.Need-returns
 returns c = no-block (c .before .before .before) (λ p. c .if1 .taken (c .before .word-at .ensures ∙ p .index))
 
-word-at-requires-2 : tie.Need-word-at-requires-2
-word-at-requires-2 c κs = search needs
-
-cast-if2 : tie.Need-cast-if2
-cast-if2 c = search needs
-
 returns-2 : tie.Need-returns-2
 returns-2 c = no-block (s1 (c .before .before)) (λ p. c .if2 .taken (c .before .word-at2 .ensures ∙ p .number))
-
-word-at-requires-3 : tie.Need-word-at-requires-3
-word-at-requires-3 c κs = search needs
 
 returns-3 : tie.Need-returns-3
 returns-3 c = no-block (s1 (e1 (c .before .before))) (λ p. omega (arith, c .if3 .taken, c .before .word-at3 .ensures, p .shallow))
 
 returns-4 : tie.Need-returns-4
 returns-4 c = no-block (s1 (e1 (c .before .before .before))) (λ p. c .if4 .taken (c .before .before .word-at3 .ensures ∙ p .depth))
-
-word-at-requires-4 : tie.Need-word-at-requires-4
-word-at-requires-4 c κs = search needs
-
-cast-k : tie.Need-cast-k
-cast-k c = search needs
-
-right-count-requires : tie.Need-right-count-requires
-right-count-requires c κs = search needs
 
 returns-5 : tie.Need-returns-5
 returns-5 c = let q = c .before in no-block (s5 q) (λ p. clash (p .count) (sym (is-count q) ∙ not-true _ (c .if5 .taken)))
@@ -124,9 +100,6 @@ unused-zero-requires c κs =
 
 returns-6 : tie.Need-returns-6
 returns-6 c = let q = c .before in no-block (s5 (k q)) (λ p. clash (p .zeros) (sym (is-unused q) ∙ not-true _ (c .if6 .taken)))
-
-right-check-requires : tie.Need-right-check-requires
-right-check-requires c κs = let s = s5 (k (c .before)) in omega (arith, s .pre)
 
 returns-7 : tie.Need-returns-7
 returns-7 c =
@@ -144,20 +117,20 @@ pub is-sound-spec : {M : Type 1} → statement M
 is-sound-spec =
     tie.close
     (tie.spec
-    word-at-requires
-    cast-if1
+    (λ c κs. search needs)
+    (λ c. search needs)
     returns
-    word-at-requires-2
-    cast-if2
+    (λ c κs. search needs)
+    (λ c. search needs)
     returns-2
-    word-at-requires-3
+    (λ c κs. search needs)
     returns-3
     returns-4
-    word-at-requires-4
-    cast-k
-    right-count-requires
+    (λ c κs. search needs)
+    (λ c. search needs)
+    (λ c κs. search needs)
     returns-5
     unused-zero-requires
     returns-6
-    right-check-requires
+    (λ c κs. let s = s5 (k (c .before)) in omega (arith, s .pre))
     returns-7)

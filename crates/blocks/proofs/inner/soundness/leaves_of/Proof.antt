@@ -20,9 +20,6 @@ sub-word-at c = let s = c .before in let b = s .args .bytes .now in omega (arith
 word-at-requires : tie.Need-word-at-requires
 word-at-requires c κs = let s = c .before in let b = s .args .bytes .now in omega (arith, some-block b (s .pre .0), all-blocks b (s .pre .0), s .pre .1, wrong-is b (s .pre .0))
 
-cast-result : tie.Need-cast-result
-cast-result c = search needs
-
 add-result : tie.Need-add-result
 add-result c = let s = c .before .before in let b = s .args .bytes .now in omega (arith, some-block b (s .pre .0), all-blocks b (s .pre .0), s .pre .1, wrong-is b (s .pre .0))
 
@@ -37,4 +34,4 @@ returns c =
 pub leaves-of-spec : {M : Type 1} → statement M
 leaves-of-spec =
     tie.close
-    (tie.spec sub-result mul-result sub-word-at word-at-requires cast-result add-result returns)
+    (tie.spec sub-result mul-result sub-word-at word-at-requires (λ c. search needs) add-result returns)

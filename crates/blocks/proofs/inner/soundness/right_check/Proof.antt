@@ -9,12 +9,6 @@ use Rattle.blocks.specs.declared.Sums.{Sums}
 use Rattle.blocks.proofs.inner.soundness.right_check.Statement.{statement}
 use Rattle.blocks.proofs.inner.soundness.right_check.Tie as tie
 
-sum-up-requires : tie.Need-sum-up-requires
-sum-up-requires c κs = search needs
-
-word-at-requires : tie.Need-word-at-requires
-word-at-requires c κs = search needs
-
 -- ---- A and word 126
 
 module _ (c : tie.After-word-at) where
@@ -29,9 +23,6 @@ returns c =
     let p = c .before .before in
     rw (ne-eqb (v p 126) (check (v p) 126 .a) (λ e. c .if1 .taken (p .word-at .ensures ∙ e ∙ sym (is-a p))))
 
-word-at-requires-2 : tie.Need-word-at-requires-2
-word-at-requires-2 c κs = search needs
-
 returns-2 : tie.Need-returns-2
 returns-2 c =
     let p = c .before .before .before .before in
@@ -40,4 +31,4 @@ returns-2 c =
     (ap (λ (s : Sums). eqb (v p 127) (s .b)) (p .before .sum-up .ensures))
 
 pub right-check-spec : {M : Type 1} → statement M
-right-check-spec = tie.close (tie.spec sum-up-requires word-at-requires returns word-at-requires-2 returns-2)
+right-check-spec = tie.close (tie.spec (λ c κs. search needs) (λ c κs. search needs) returns (λ c κs. search needs) returns-2)

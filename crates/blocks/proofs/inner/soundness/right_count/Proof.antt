@@ -7,9 +7,6 @@ use borrow.Author.Needs.{needs}
 use Rattle.blocks.proofs.inner.soundness.right_count.Statement.{statement}
 use Rattle.blocks.proofs.inner.soundness.right_count.Tie as tie
 
-add-if1 : tie.Need-add-if1
-add-if1 c = search needs
-
 returns : tie.Need-returns
 unfolding rightCount
 returns c = let a = c .before .args in rw (rightCount, lt-ltb (a .i + 1) (a .n) (c .if1 .taken))
@@ -31,4 +28,4 @@ returns-4 c =
     rw (rightCount, le-ltb (a .i + 1) (a .n) (c .before .before .if1 .left), le-leb (a .k) 122 (c .before .if2 .left), lt-leb 1 (a .k) (omega (arith, c .if3 .left)))
 
 pub right-count-spec : {M : Type 1} → statement M
-right-count-spec = tie.close (tie.spec add-if1 returns returns-2 returns-3 returns-4)
+right-count-spec = tie.close (tie.spec (λ c. search needs) returns returns-2 returns-3 returns-4)

@@ -22,15 +22,6 @@ Inv-loop bytes i k w₀ w = (w ≤ 126) × (4 + k ≤ w) × ((v : ℕ) → 4 + k
 abbrev μ-loop : tie.MeasureT-loop
 μ-loop bytes i k w₀ w = 126 - w
 
-add-w : tie.Need-add-w Inv-loop μ-loop
-add-w c = omega arith
-
-loop-holds : tie.Need-loop-holds Inv-loop μ-loop
-loop-holds c = (omega arith, omega arith, λ v a b. absurd (omega arith))
-
-word-at-requires : tie.Need-word-at-requires Inv-loop μ-loop
-word-at-requires c κs = omega arith
-
 returns : tie.Need-returns Inv-loop μ-loop
 returns c =
     let a = c .before .before .before .before .before .args in
@@ -38,12 +29,6 @@ returns c =
     let v = c .before .word-at .ensures in
     sym (refuted (allFrom (λ w. eqb (word (a .bytes .now) (a .i) w) 0) (4 + a .k) (122 - a .k))
     (λ t. c .if1 .taken (v ∙ eqb-true (word (a .bytes .now) (a .i) (L .w)) 0 (all-true (λ w. eqb (word (a .bytes .now) (a .i) w) 0) (4 + a .k) (122 - a .k) t (L .w) (L .inv .1) (omega arith)))))
-
-add-w-2 : tie.Need-add-w-2 Inv-loop μ-loop
-add-w-2 c = omega arith
-
-loop-less : tie.Need-loop-less Inv-loop μ-loop
-loop-less c = omega arith
 
 loop-again : tie.Need-loop-again Inv-loop μ-loop
 loop-again c =
@@ -63,11 +48,11 @@ unused-zero-spec =
     (tie.spec
     Inv-loop
     μ-loop
-    add-w
-    loop-holds
-    word-at-requires
+    (λ c. omega arith)
+    (λ c. (omega arith, omega arith, λ v a b. absurd (omega arith)))
+    (λ c κs. omega arith)
     returns
-    add-w-2
-    loop-less
+    (λ c. omega arith)
+    (λ c. omega arith)
     loop-again
     returns-2)

@@ -4,15 +4,9 @@ use borrow.Author.Needs.{needs}
 use Rattle.blocks.proofs.inner.words.code_at.Statement.{statement}
 use Rattle.blocks.proofs.inner.words.code_at.Tie as tie
 
-add-word-at : tie.Need-add-word-at
-add-word-at c = search needs
-
-word-at-requires : tie.Need-word-at-requires
-word-at-requires c κs = search needs
-
 returns : tie.Need-returns
 unfolding code
 returns c = c .word-at .ensures
 
 pub code-at-spec : {M : Type 1} → statement M
-code-at-spec = tie.close (tie.spec add-word-at word-at-requires returns)
+code-at-spec = tie.close (tie.spec (λ c. search needs) (λ c κs. search needs) returns)

@@ -19,44 +19,14 @@ record Bytes (b : List ℕ) (p : ℕ) : Type 0 where
 four : (b : List ℕ) (p : ℕ) → ((k : ℕ) → getD b k 0 < 256) → Bytes b p
 four b p h = record { b0 = h p; b1 = h (p + 1); b2 = h (p + 2); b3 = h (p + 3) }
 
-mul-p : tie.Need-mul-p
-mul-p c = search needs
-
-mul-p-2 : tie.Need-mul-p-2
-mul-p-2 c = search needs
-
-add-p : tie.Need-add-p
-add-p c = search needs
-
-shared-slice-read-b0 : tie.Need-shared-slice-read-b0
-shared-slice-read-b0 c = search needs
-
 cast-b0 : tie.Need-cast-b0
 cast-b0 c = omega (arith, c .shared-slice-known .given (512 * c .before .args .i + 4 * c .before .args .w))
-
-add-b1 : tie.Need-add-b1
-add-b1 c = search needs
-
-shared-slice-read-b1 : tie.Need-shared-slice-read-b1
-shared-slice-read-b1 c = search needs
 
 cast-b1 : tie.Need-cast-b1
 cast-b1 c = omega (arith, c .shared-slice-known2 .given (512 * c .before .before .args .i + 4 * c .before .before .args .w + 1))
 
-add-b2 : tie.Need-add-b2
-add-b2 c = search needs
-
-shared-slice-read-b2 : tie.Need-shared-slice-read-b2
-shared-slice-read-b2 c = search needs
-
 cast-b2 : tie.Need-cast-b2
 cast-b2 c = omega (arith, c .shared-slice-known3 .given (512 * c .before .before .before .args .i + 4 * c .before .before .before .args .w + 2))
-
-add-b3 : tie.Need-add-b3
-add-b3 c = search needs
-
-shared-slice-read-b3 : tie.Need-shared-slice-read-b3
-shared-slice-read-b3 c = search needs
 
 cast-b3 : tie.Need-cast-b3
 cast-b3 c = omega (arith, c .shared-slice-known4 .given (512 * c .before .before .before .before .args .i + 4 * c .before .before .before .before .args .w + 3))
@@ -87,19 +57,19 @@ pub word-at-spec : {M : Type 1} → statement M
 word-at-spec =
     tie.close
     (tie.spec
-    mul-p
-    mul-p-2
-    add-p
-    shared-slice-read-b0
+    (λ c. search needs)
+    (λ c. search needs)
+    (λ c. search needs)
+    (λ c. search needs)
     cast-b0
-    add-b1
-    shared-slice-read-b1
+    (λ c. search needs)
+    (λ c. search needs)
     cast-b1
-    add-b2
-    shared-slice-read-b2
+    (λ c. search needs)
+    (λ c. search needs)
     cast-b2
-    add-b3
-    shared-slice-read-b3
+    (λ c. search needs)
+    (λ c. search needs)
     cast-b3
     mul-result
     add-result

@@ -20,12 +20,6 @@ loop-holds c =
     let a = s .args in
     copied-none (s .pre .1) (s .pre .2) (s .pre .3) (s .pre .4)
 
-cast-at : tie.Need-cast-at Inv-loop μ-loop
-cast-at c = search needs
-
-mul-c : tie.Need-mul-c Inv-loop μ-loop
-mul-c c = search needs
-
 shared-slice-read-c : tie.Need-shared-slice-read-c Inv-loop μ-loop
 shared-slice-read-c c =
     let s = c .before .before .before .before .before in
@@ -79,12 +73,6 @@ push-requires c κs =
       rw (x, y) (omega (arith, leaf-top (s .pre .1) (s .pre .2) (s .pre .3) (u .inv) here, s .pre .3)),
     )
 
-add-i : tie.Need-add-i Inv-loop μ-loop
-add-i c = search needs
-
-loop-less : tie.Need-loop-less Inv-loop μ-loop
-loop-less c = search needs
-
 loop-again : tie.Need-loop-again Inv-loop μ-loop
 loop-again c =
     let s = c .before .before .before .before .before .before .before .before .before .before .before in
@@ -95,9 +83,6 @@ loop-again c =
     copied-next (s .pre .1) (s .pre .2) (s .pre .3) (u .inv) here
     (c .before .before .before .before .before .first .result) (c .before .before .before .before .width .result) (c .before .before .before .before .before .first .ensures) (c .before .before .before .before .width .ensures)
     (q .kept .1 .1 .1 .1 .1 .0) (q .ensures)
-
-same-length : tie.Need-same-length Inv-loop μ-loop
-same-length c = c .before .loop .inv .size
 
 returns : tie.Need-returns Inv-loop μ-loop
 returns c =
@@ -113,8 +98,8 @@ copy-leaves-spec =
     Inv-loop
     μ-loop
     loop-holds
-    cast-at
-    mul-c
+    (λ c. search needs)
+    (λ c. search needs)
     shared-slice-read-c
     first-requires
     sub-v
@@ -122,8 +107,8 @@ copy-leaves-spec =
     width-requires
     add-push
     push-requires
-    add-i
-    loop-less
+    (λ c. search needs)
+    (λ c. search needs)
     loop-again
-    same-length
+    (λ c. c .before .loop .inv .size)
     returns)

@@ -94,44 +94,11 @@ module _ (q : tie.After-enum-told3) where
 
 -- ---- the needs
 
-pow8-requires : tie.Need-pow8-requires
-pow8-requires c κs = search needs
-
-tint-slot-requires : tie.Need-tint-slot-requires
-tint-slot-requires c κs = search needs
-
-enum-told : tie.Need-enum-told
-enum-told c = search needs
-
-add-push : tie.Need-add-push
-add-push c = record { fits = short (c .before .before .before) }
-
 push-requires : tie.Need-push-requires
 push-requires c κs = let p = c .before .before .before .before in (s p .pre .0, s p .pre .5, some p, ends p)
 
-enum-told-2 : tie.Need-enum-told-2
-enum-told-2 c = search needs
-
-add-push-2 : tie.Need-add-push-2
-add-push-2 c = record { fits = short (c .before .before .before) }
-
 push-requires-2 : tie.Need-push-requires-2
 push-requires-2 c κs = let p = c .before .before .before .before in (s p .pre .0, s p .pre .5, some p, ends p)
-
-enum-told-3 : tie.Need-enum-told-3
-enum-told-3 c = search needs
-
-cast-at : tie.Need-cast-at
-cast-at c = search needs
-
-mul-c : tie.Need-mul-c
-mul-c c = search needs
-
-shared-slice-read-c : tie.Need-shared-slice-read-c
-shared-slice-read-c c = listed (c .before .before)
-
-first-requires : tie.Need-first-requires
-first-requires c κs = let q = c .before .before in (s (w q) .pre .0, is-proper q)
 
 div-copy-leaves : tie.Need-div-copy-leaves
 div-copy-leaves c = let p = w (c .before .before .before) in omega (arith, p .pow8 .ensures, pow8-pos (s p .args .k))
@@ -148,9 +115,6 @@ copy-leaves-requires c κs =
     let t = s (w q) in
     (t .pre .0, t .pre .2, inside q (c .before .first .result) (c .before .first .ensures) (t .pre .3 .0) (t .pre .3 .1), ends (w q), t .pre .5)
 
-same-length : tie.Need-same-length
-same-length c = search needs
-
 returns : tie.Need-returns
 returns c = λ P b x h.
     let p = c .before .before .before .before .before .before .before in
@@ -158,18 +122,12 @@ returns c = λ P b x h.
     let t = told p (c .before .before .before .before .before .before) _ (c .before .before .before .before .enum-told .given .1) in
     fed p P _ _ (c .before .before .push .ensures P (whole p P false (copy-white (a .depth) (a .l .now) b (a .k) (a .s) x (a .from) P h t)))
 
-same-length-2 : tie.Need-same-length-2
-same-length-2 c = search needs
-
 returns-2 : tie.Need-returns-2
 returns-2 c = λ P b x h.
     let p = c .before .before .before .before .before .before .before in
     let a = s p .args in
     let t = told p (c .before .before .before .before .before .before) _ (c .before .before .before .before .enum-told2 .given .1) in
     fed p P _ _ (c .before .before .push2 .ensures P (whole p P true (copy-black (a .depth) (a .l .now) b (a .k) (a .s) x (a .from) P h (s p .pre .2) (t .0) (omega (arith, t .1, p .pow8 .ensures)))))
-
-same-length-3 : tie.Need-same-length-3
-same-length-3 c = search needs
 
 returns-3 : tie.Need-returns-3
 returns-3 c = λ P b x h.
@@ -181,25 +139,25 @@ pub copy-slot-spec : {M : Type 1} → statement M
 copy-slot-spec =
     tie.close
     (tie.spec
-    pow8-requires
-    tint-slot-requires
-    enum-told
-    add-push
+    (λ c κs. search needs)
+    (λ c κs. search needs)
+    (λ c. search needs)
+    (λ c. record { fits = short (c .before .before .before) })
     push-requires
-    enum-told-2
-    add-push-2
+    (λ c. search needs)
+    (λ c. record { fits = short (c .before .before .before) })
     push-requires-2
-    enum-told-3
-    cast-at
-    mul-c
-    shared-slice-read-c
-    first-requires
+    (λ c. search needs)
+    (λ c. search needs)
+    (λ c. search needs)
+    (λ c. listed (c .before .before))
+    (λ c κs. let q = c .before .before in (s (w q) .pre .0, is-proper q))
     div-copy-leaves
     mul-copy-leaves
     copy-leaves-requires
-    same-length
+    (λ c. search needs)
     returns
-    same-length-2
+    (λ c. search needs)
     returns-2
-    same-length-3
+    (λ c. search needs)
     returns-3)

@@ -58,18 +58,6 @@ join-label-requires c κs =
     let u = c .before .loop in
     (omega (arith, u .inv .now, need-lt (u .n) (c .before .before .args .w)), omega arith)
 
-add-n : tie.Need-add-n Inv-loop μ-loop
-add-n c = search needs
-
-mul-r : tie.Need-mul-r Inv-loop μ-loop
-mul-r c = search needs
-
-array-write-r : tie.Need-array-write-r Inv-loop μ-loop
-array-write-r c = search needs
-
-loop-less : tie.Need-loop-less Inv-loop μ-loop
-loop-less c = search needs
-
 loop-again : tie.Need-loop-again Inv-loop μ-loop
 loop-again c =
     let w = c .before .before .before .args .w in
@@ -93,9 +81,9 @@ needs-spec =
     μ-loop
     loop-holds
     join-label-requires
-    add-n
-    mul-r
-    array-write-r
-    loop-less
+    (λ c. search needs)
+    (λ c. search needs)
+    (λ c. search needs)
+    (λ c. search needs)
     loop-again
     returns)

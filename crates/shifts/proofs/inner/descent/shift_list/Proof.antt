@@ -14,9 +14,6 @@ use Rattle.shifts.proofs.Targets.{root-target}
 use Rattle.shifts.proofs.inner.descent.shift_list.Statement.{statement}
 use Rattle.shifts.proofs.inner.descent.shift_list.Tie as tie
 
-needs-requires : tie.Need-needs-requires
-needs-requires c κs = search needs
-
 cast-t12 : tie.Need-cast-t12
 cast-t12 c =
     let s = c .before .before .before in
@@ -35,12 +32,6 @@ shift-cell-requires c κs =
       record { run = omega arith; past = omega arith; few = omega arith; root = omega arith },
     )
 
-finish-requires : tie.Need-finish-requires
-finish-requires c κs = search needs
-
-same-length : tie.Need-same-length
-same-length c = search needs
-
 returns : tie.Need-returns
 returns c =
     let d = c .before .before .before .before .before .before in
@@ -54,4 +45,4 @@ returns c =
 pub shift-list-spec : {M : Type 1} → statement M
 shift-list-spec =
     tie.close
-    (tie.spec needs-requires cast-t12 shift-cell-requires finish-requires same-length returns)
+    (tie.spec (λ c κs. search needs) cast-t12 shift-cell-requires (λ c κs. search needs) (λ c. search needs) returns)

@@ -6,16 +6,10 @@ use borrow.Author.Needs.{needs}
 use Rattle.shifts.proofs.inner.slots.add_slot.Statement.{statement}
 use Rattle.shifts.proofs.inner.slots.add_slot.Tie as tie
 
-within-requires : tie.Need-within-requires
-within-requires c κs = search needs
-
 tint-slot-requires : tie.Need-tint-slot-requires
 tint-slot-requires c κs =
     let s = c .before .before .before in
     (s .pre .0, s .pre .1, s .pre .4 (c .before .within .ensures .0 (c .if1 .taken)))
-
-merge-requires : tie.Need-merge-requires
-merge-requires c κs = search needs
 
 returns : tie.Need-returns
 returns c =
@@ -29,4 +23,4 @@ returns-2 c =
 
 pub add-slot-spec : {M : Type 1} → statement M
 add-slot-spec =
-    tie.close (tie.spec within-requires tint-slot-requires merge-requires returns returns-2)
+    tie.close (tie.spec (λ c κs. search needs) tint-slot-requires (λ c κs. search needs) returns returns-2)

@@ -15,9 +15,6 @@ Inv-loop depth l w f t r₀ q₀ r q = (q ≤ 8) × SlotsTint depth l w f t q r
 abbrev μ-loop : tie.MeasureT-loop
 μ-loop depth l w f t r₀ q₀ r q = 8 - q
 
-array-copy-out-s : tie.Need-array-copy-out-s Inv-loop μ-loop
-array-copy-out-s c = search needs
-
 tint-slot-requires : tie.Need-tint-slot-requires Inv-loop μ-loop
 tint-slot-requires c κs =
     let s = c .before .before in
@@ -28,26 +25,11 @@ loop-holds c =
     let a = c .before .before .before .args in
     (omega arith, tint-first (a .depth) (a .l .now) (a .w) (a .f) (a .t5) (c .tint-slot .result) (c .tint-slot .ensures))
 
-mul-s : tie.Need-mul-s Inv-loop μ-loop
-mul-s c = search needs
-
-array-copy-out-s-2 : tie.Need-array-copy-out-s-2 Inv-loop μ-loop
-array-copy-out-s-2 c = search needs
-
-cast-add-slot : tie.Need-cast-add-slot Inv-loop μ-loop
-cast-add-slot c = search needs
-
 add-slot-requires : tie.Need-add-slot-requires Inv-loop μ-loop
 add-slot-requires c κs =
     let s = c .before .before .before .before .before .before in
     let q = c .before .loop-test .taken in
     (s .pre .0, s .pre .1, s .pre .2, q, s .pre .3 (c .before .before .loop .q) q)
-
-add-q : tie.Need-add-q Inv-loop μ-loop
-add-q c = search needs
-
-loop-less : tie.Need-loop-less Inv-loop μ-loop
-loop-less c = search needs
 
 loop-again : tie.Need-loop-again Inv-loop μ-loop
 loop-again c =
@@ -68,14 +50,14 @@ colour-spec =
     (tie.spec
     Inv-loop
     μ-loop
-    array-copy-out-s
+    (λ c. search needs)
     tint-slot-requires
     loop-holds
-    mul-s
-    array-copy-out-s-2
-    cast-add-slot
+    (λ c. search needs)
+    (λ c. search needs)
+    (λ c. search needs)
     add-slot-requires
-    add-q
-    loop-less
+    (λ c. search needs)
+    (λ c. search needs)
     loop-again
     returns)

@@ -43,24 +43,6 @@ Inv-loop depth l k w wide i₀ hi at c v₀ r₀ m₀ i v r m = Cutting depth l 
 abbrev μ-loop : tie.MeasureT-loop
 μ-loop depth l k w wide i₀ hi at c v₀ r₀ m₀ i v r m = 8 - m
 
-pow8-requires : tie.Need-pow8-requires Inv-loop μ-loop
-pow8-requires c κs = search needs
-
-add-pow8 : tie.Need-add-pow8 Inv-loop μ-loop
-add-pow8 c = search needs
-
-pow8-requires-2 : tie.Need-pow8-requires-2 Inv-loop μ-loop
-pow8-requires-2 c κs = search needs
-
-cast-at : tie.Need-cast-at Inv-loop μ-loop
-cast-at c = search needs
-
-mul-c : tie.Need-mul-c Inv-loop μ-loop
-mul-c c = search needs
-
-shared-slice-read-c : tie.Need-shared-slice-read-c Inv-loop μ-loop
-shared-slice-read-c c = search needs
-
 first-requires : tie.Need-first-requires Inv-loop μ-loop
 first-requires c κs =
     let s = c .before .before .before .before in
@@ -104,18 +86,6 @@ first-from-requires c κs =
     let s = c .before .before .before .before .before .before .before in
     (s .pre .0 .0, s .pre .0 .2, c .before .loop .inv .cut .high, s .pre .1 .0 .within)
 
-mul-r : tie.Need-mul-r Inv-loop μ-loop
-mul-r c = search needs
-
-array-set-from-r : tie.Need-array-set-from-r Inv-loop μ-loop
-array-set-from-r c = search needs
-
-add-m : tie.Need-add-m Inv-loop μ-loop
-add-m c = search needs
-
-loop-less : tie.Need-loop-less Inv-loop μ-loop
-loop-less c = search needs
-
 loop-again : tie.Need-loop-again Inv-loop μ-loop
 loop-again c =
     let s = c .before .before .before .before .before .before .before .before in
@@ -145,21 +115,21 @@ cut-slot-spec =
     (tie.spec
     Inv-loop
     μ-loop
-    pow8-requires
-    add-pow8
-    pow8-requires-2
-    cast-at
-    mul-c
-    shared-slice-read-c
+    (λ c κs. search needs)
+    (λ c. search needs)
+    (λ c κs. search needs)
+    (λ c. search needs)
+    (λ c. search needs)
+    (λ c. search needs)
     first-requires
     div-v
     mul-v
     loop-holds
     add-v
     first-from-requires
-    mul-r
-    array-set-from-r
-    add-m
-    loop-less
+    (λ c. search needs)
+    (λ c. search needs)
+    (λ c. search needs)
+    (λ c. search needs)
     loop-again
     returns)

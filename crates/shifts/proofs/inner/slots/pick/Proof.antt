@@ -24,48 +24,6 @@ abbrev μ-loop : tie.MeasureT-loop
 loop-holds : tie.Need-loop-holds Inv-loop μ-loop
 loop-holds c = filled-none (Picked (c .args .t1) (c .args .h) (c .args .m)) (record { lo = 0; hi = 0 }) 8 _ refl
 
-cast-carry-label : tie.Need-cast-carry-label Inv-loop μ-loop
-cast-carry-label c = search needs
-
-carry-label-requires : tie.Need-carry-label-requires Inv-loop μ-loop
-carry-label-requires c κs = search needs
-
-cast-from : tie.Need-cast-from Inv-loop μ-loop
-cast-from c = search needs
-
-cast-sum-label : tie.Need-cast-sum-label Inv-loop μ-loop
-cast-sum-label c = search needs
-
-sum-label-requires : tie.Need-sum-label-requires Inv-loop μ-loop
-sum-label-requires c κs = search needs
-
-cast-label : tie.Need-cast-label Inv-loop μ-loop
-cast-label c = search needs
-
-mul-row : tie.Need-mul-row Inv-loop μ-loop
-mul-row c = search needs
-
-array-copy-out-row : tie.Need-array-copy-out-row Inv-loop μ-loop
-array-copy-out-row c = search needs
-
-mul-s : tie.Need-mul-s Inv-loop μ-loop
-mul-s c = search needs
-
-array-copy-out-s : tie.Need-array-copy-out-s Inv-loop μ-loop
-array-copy-out-s c = search needs
-
-mul-r : tie.Need-mul-r Inv-loop μ-loop
-mul-r c = search needs
-
-array-set-from-r : tie.Need-array-set-from-r Inv-loop μ-loop
-array-set-from-r c = search needs
-
-add-q : tie.Need-add-q Inv-loop μ-loop
-add-q c = search needs
-
-loop-less : tie.Need-loop-less Inv-loop μ-loop
-loop-less c = search needs
-
 loop-again : tie.Need-loop-again Inv-loop μ-loop
 loop-again c =
     let a = c .before .before .before .before .before .before .args in
@@ -86,19 +44,19 @@ pick-spec =
     Inv-loop
     μ-loop
     loop-holds
-    cast-carry-label
-    carry-label-requires
-    cast-from
-    cast-sum-label
-    sum-label-requires
-    cast-label
-    mul-row
-    array-copy-out-row
-    mul-s
-    array-copy-out-s
-    mul-r
-    array-set-from-r
-    add-q
-    loop-less
+    (λ c. search needs)
+    (λ c κs. search needs)
+    (λ c. search needs)
+    (λ c. search needs)
+    (λ c κs. search needs)
+    (λ c. search needs)
+    (λ c. search needs)
+    (λ c. search needs)
+    (λ c. search needs)
+    (λ c. search needs)
+    (λ c. search needs)
+    (λ c. search needs)
+    (λ c. search needs)
+    (λ c. search needs)
     loop-again
     returns)

@@ -26,33 +26,12 @@ loop-holds c =
     let a = c .before .args in
     filled-none (Parted (a .depth) (a .l .now) (a .k) (a .f) (a .t5)) [] 8 _ refl
 
-mul-s : tie.Need-mul-s Inv-loop μ-loop
-mul-s c = search needs
-
-array-copy-out-s : tie.Need-array-copy-out-s Inv-loop μ-loop
-array-copy-out-s c = search needs
-
-cast-split-needed : tie.Need-cast-split-needed Inv-loop μ-loop
-cast-split-needed c = search needs
-
 split-needed-requires : tie.Need-split-needed-requires Inv-loop μ-loop
 split-needed-requires c κs =
     let s = c .before .before .before .before in
     let u = c .before .before .loop in
     let q = c .before .loop-test .taken in
     (s .pre .0, s .pre .1, s .pre .2, q, s .pre .3, λ x. (s .pre .4 .0 (u .q), s .pre .4 .1 (u .q) q x))
-
-mul-r : tie.Need-mul-r Inv-loop μ-loop
-mul-r c = search needs
-
-array-set-from-r : tie.Need-array-set-from-r Inv-loop μ-loop
-array-set-from-r c = search needs
-
-add-q : tie.Need-add-q Inv-loop μ-loop
-add-q c = search needs
-
-loop-less : tie.Need-loop-less Inv-loop μ-loop
-loop-less c = search needs
 
 loop-again : tie.Need-loop-again Inv-loop μ-loop
 loop-again c =
@@ -71,13 +50,13 @@ split-spec =
     Inv-loop
     μ-loop
     loop-holds
-    mul-s
-    array-copy-out-s
-    cast-split-needed
+    (λ c. search needs)
+    (λ c. search needs)
+    (λ c. search needs)
     split-needed-requires
-    mul-r
-    array-set-from-r
-    add-q
-    loop-less
+    (λ c. search needs)
+    (λ c. search needs)
+    (λ c. search needs)
+    (λ c. search needs)
     loop-again
     returns)

@@ -8,24 +8,6 @@ use borrow.Author.Needs.{needs}
 use Rattle.shifts.proofs.inner.slots.split_slot.Statement.{statement}
 use Rattle.shifts.proofs.inner.slots.split_slot.Tie as tie
 
-add-pow8 : tie.Need-add-pow8
-add-pow8 c = search needs
-
-pow8-requires : tie.Need-pow8-requires
-pow8-requires c κs = search needs
-
-tint-slot-requires : tie.Need-tint-slot-requires
-tint-slot-requires c κs = search needs
-
-enum-told : tie.Need-enum-told
-enum-told c = search needs
-
-enum-told-2 : tie.Need-enum-told-2
-enum-told-2 c = search needs
-
-enum-told-3 : tie.Need-enum-told-3
-enum-told-3 c = search needs
-
 cut-slot-requires : tie.Need-cut-slot-requires
 cut-slot-requires c κs =
     let s = c .before .before .before .before .before in
@@ -66,12 +48,12 @@ pub split-slot-spec : {M : Type 1} → statement M
 split-slot-spec =
     tie.close
     (tie.spec
-    add-pow8
-    pow8-requires
-    tint-slot-requires
-    enum-told
-    enum-told-2
-    enum-told-3
+    (λ c. search needs)
+    (λ c κs. search needs)
+    (λ c κs. search needs)
+    (λ c. search needs)
+    (λ c. search needs)
+    (λ c. search needs)
     cut-slot-requires
     returns
     returns-2

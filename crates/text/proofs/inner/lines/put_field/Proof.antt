@@ -6,17 +6,11 @@ use Rattle.text.proofs.Puts.{put-append}
 use Rattle.text.proofs.inner.lines.put_field.Statement.{statement}
 use Rattle.text.proofs.inner.lines.put_field.Tie as tie
 
-put-word-requires : tie.Need-put-word-requires
-put-word-requires c κs = let s = c .before .before .before in omega (arith, s .pre)
-
 put-decimal-requires : tie.Need-put-decimal-requires
 put-decimal-requires c κs =
     let w = c .before .before .before in
     let s = w .before .before .before .before in
     omega (arith, w .put-word .ensures .place, s .pre)
-
-same-length : tie.Need-same-length
-same-length c = search needs
 
 returns : tie.Need-returns
 returns c =
@@ -27,4 +21,4 @@ returns c =
     put-append (a .write) (a .bytes .now) (a .at) (a .word .now) _ _ (w .put-word .ensures) (decimal (a .n)) _ _ (d .put-decimal .ensures 19 (omega (arith, s .fits .n)))
 
 pub put-field-spec : {M : Type 1} → statement M
-put-field-spec = tie.close (tie.spec put-word-requires put-decimal-requires same-length returns)
+put-field-spec = tie.close (tie.spec (λ c κs. let s = c .before .before .before in omega (arith, s .pre)) put-decimal-requires (λ c. search needs) returns)

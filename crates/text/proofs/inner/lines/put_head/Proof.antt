@@ -26,20 +26,8 @@ module _ (c : tie.After-put-field2) where
   two : Put (s p .args .write) (s p .args .bytes .now) 0 (field depthWord (s p .args .depth) ++ field leavesWord (s p .args .leaves)) (c .put-field2 .last .1 .1 .0) (c .put-field2 .result)
   two = put-append (s p .args .write) (s p .args .bytes .now) 0 (field depthWord (s p .args .depth)) _ _ (one p) (field leavesWord (s p .args .leaves)) _ _ (c .put-field2 .ensures)
 
-slice-aggregate-put-field : tie.Need-slice-aggregate-put-field
-slice-aggregate-put-field c = search needs
-
-put-field-requires : tie.Need-put-field-requires
-put-field-requires c κs = search needs
-
-slice-aggregate-put-field-2 : tie.Need-slice-aggregate-put-field-2
-slice-aggregate-put-field-2 c = search needs
-
 put-field-requires-2 : tie.Need-put-field-requires-2
 put-field-requires-2 c κs = let q = c .before .before .before .before in omega (arith, one q .place, field-length depthWord (s q .args .depth))
-
-slice-aggregate-put-field-3 : tie.Need-slice-aggregate-put-field-3
-slice-aggregate-put-field-3 c = search needs
 
 put-field-requires-3 : tie.Need-put-field-requires-3
 put-field-requires-3 c κs =
@@ -74,9 +62,6 @@ put-requires c κs =
       field-length volumeWord (a .voxels),
     )
 
-same-length : tie.Need-same-length
-same-length c = search needs
-
 returns : tie.Need-returns
 returns c =
     let e = c .before .before in
@@ -88,12 +73,12 @@ pub put-head-spec : {M : Type 1} → statement M
 put-head-spec =
     tie.close
     (tie.spec
-    slice-aggregate-put-field
-    put-field-requires
-    slice-aggregate-put-field-2
+    (λ c. search needs)
+    (λ c κs. search needs)
+    (λ c. search needs)
     put-field-requires-2
-    slice-aggregate-put-field-3
+    (λ c. search needs)
     put-field-requires-3
     put-requires
-    same-length
+    (λ c. search needs)
     returns)

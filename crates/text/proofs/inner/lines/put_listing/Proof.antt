@@ -11,18 +11,12 @@ use Rattle.text.proofs.Digits.{head-length, listing-lines}
 use Rattle.text.proofs.inner.lines.put_listing.Statement.{statement}
 use Rattle.text.proofs.inner.lines.put_listing.Tie as tie
 
-put-head-requires : tie.Need-put-head-requires
-put-head-requires c κs = search needs
-
 put-paths-requires : tie.Need-put-paths-requires
 put-paths-requires c κs =
     let p = c .before .before .before in
     let s = p .before .before .before .before in
     let a = s .args in
     (a .depth, s .pre .0, s .pre .1, omega (arith, p .put-head .ensures .place, head-length (a .depth) (length (a .list .now)) (a .voxels), s .pre .2, pow8-small (a .depth) (s .pre .0)))
-
-same-length : tie.Need-same-length
-same-length c = search needs
 
 returns : tie.Need-returns
 returns c =
@@ -35,4 +29,4 @@ returns c =
     (q .put-paths .ensures (a .depth) (s .pre .0) (s .pre .1)))
 
 pub put-listing-spec : {M : Type 1} → statement M
-put-listing-spec = tie.close (tie.spec put-head-requires put-paths-requires same-length returns)
+put-listing-spec = tie.close (tie.spec (λ c κs. search needs) put-paths-requires (λ c. search needs) returns)

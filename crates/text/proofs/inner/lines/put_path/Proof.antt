@@ -10,9 +10,6 @@ use Rattle.text.proofs.Digits.{labels-length, proper-labelled}
 use Rattle.text.proofs.inner.lines.put_path.Statement.{statement}
 use Rattle.text.proofs.inner.lines.put_path.Tie as tie
 
-put-requires : tie.Need-put-requires
-put-requires c κs = let s = c .before .before in omega (arith, s .pre .3)
-
 put-labels-requires : tie.Need-put-labels-requires
 put-labels-requires c κs =
     let p = c .before .before .before in
@@ -30,9 +27,6 @@ put-requires-2 c κs =
     let i = index D (s .args .code) in
     omega (arith, p .put .ensures .place, q .put-labels .ensures k i (proper-labelled D (s .args .code) is) .place, labels-length k i, level-le D (s .args .code))
 
-same-length : tie.Need-same-length
-same-length c = search needs
-
 returns : tie.Need-returns
 returns c =
     λ D is.
@@ -46,4 +40,4 @@ returns c =
 
 pub put-path-spec : {M : Type 1} → statement M
 put-path-spec =
-    tie.close (tie.spec put-requires put-labels-requires put-requires-2 same-length returns)
+    tie.close (tie.spec (λ c κs. let s = c .before .before in omega (arith, s .pre .3)) put-labels-requires put-requires-2 (λ c. search needs) returns)

@@ -30,12 +30,6 @@ loop-holds : tie.Need-loop-holds Inv-loop μ-loop
 unfolding pathLines
 loop-holds c = (search needs, λ D h o. put-none _ _ _)
 
-mul-put-path : tie.Need-mul-put-path Inv-loop μ-loop
-mul-put-path c = search needs
-
-shared-slice-read-put-path : tie.Need-shared-slice-read-put-path Inv-loop μ-loop
-shared-slice-read-put-path c = search needs
-
 -- ---- the loop's head
 
 module _ (c : tie.At-loop Inv-loop μ-loop) where
@@ -55,12 +49,6 @@ put-path-requires c κs =
     let l = s h .args .list .now in
     let (D, shallow, o, room) = s h .pre in
     (D, shallow, member D 0 l (getD l (h .loop .i) 0) o (member-at l (h .loop .i) (i .loop-test .taken)) .0, omega (arith, near h, i .loop-test .taken))
-
-add-i : tie.Need-add-i Inv-loop μ-loop
-add-i c = search needs
-
-loop-less : tie.Need-loop-less Inv-loop μ-loop
-loop-less c = search needs
 
 loop-again : tie.Need-loop-again Inv-loop μ-loop
 loop-again c =
@@ -99,11 +87,11 @@ put-paths-spec =
     Inv-loop
     μ-loop
     loop-holds
-    mul-put-path
-    shared-slice-read-put-path
+    (λ c. search needs)
+    (λ c. search needs)
     put-path-requires
-    add-i
-    loop-less
+    (λ c. search needs)
+    (λ c. search needs)
     loop-again
     same-length
     returns)

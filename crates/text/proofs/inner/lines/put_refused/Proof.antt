@@ -27,15 +27,6 @@ module _ (c : tie.After-put-field2) where
   two : Put (s p .args .write) (s p .args .bytes .now) 0 (field refusedWord (s p .args .number) ++ field (32 ∷ []) (s p .args .place)) (c .put-field2 .last .1 .1 .0) (c .put-field2 .result)
   two = put-append (s p .args .write) (s p .args .bytes .now) 0 (field refusedWord (s p .args .number)) _ _ (one p) (field (32 ∷ []) (s p .args .place)) _ _ (c .put-field2 .ensures)
 
-slice-aggregate-put-field : tie.Need-slice-aggregate-put-field
-slice-aggregate-put-field c = search needs
-
-put-field-requires : tie.Need-put-field-requires
-put-field-requires c κs = search needs
-
-slice-aggregate-put-field-2 : tie.Need-slice-aggregate-put-field-2
-slice-aggregate-put-field-2 c = search needs
-
 put-field-requires-2 : tie.Need-put-field-requires-2
 put-field-requires-2 c κs = let q = c .before .before .before .before in omega (arith, one q .place, field-length refusedWord (s q .args .number))
 
@@ -44,9 +35,6 @@ put-requires c κs =
     let q = c .before .before .before in
     let a = s (p q) .args in
     omega (arith, two q .place, length-append (field refusedWord (a .number)) (field (32 ∷ []) (a .place)), field-length refusedWord (a .number), field-length (32 ∷ []) (a .place))
-
-same-length : tie.Need-same-length
-same-length c = search needs
 
 returns : tie.Need-returns
 returns c =
@@ -60,10 +48,10 @@ pub put-refused-spec : {M : Type 1} → statement M
 put-refused-spec =
     tie.close
     (tie.spec
-    slice-aggregate-put-field
-    put-field-requires
-    slice-aggregate-put-field-2
+    (λ c. search needs)
+    (λ c κs. search needs)
+    (λ c. search needs)
     put-field-requires-2
     put-requires
-    same-length
+    (λ c. search needs)
     returns)

@@ -7,26 +7,11 @@ use lib.Seq.{set-out}
 use Rattle.text.proofs.inner.parts.put.Statement.{statement}
 use Rattle.text.proofs.inner.parts.put.Tie as tie
 
-add-result : tie.Need-add-result
-add-result c = search needs
-
 returns : tie.Need-returns
 returns c = record { bytes = rw (not-true (c .before .args .write) (c .if1 .taken)); place = refl }
 
-add-result-2 : tie.Need-add-result-2
-add-result-2 c = search needs
-
 returns-2 : tie.Need-returns-2
 returns-2 c = record { bytes = rw (not-false (c .before .before .args .write) (c .before .if1 .left)) (sym (set-out _ _ _ (c .if2 .taken))); place = refl }
-
-slice-write-bytes : tie.Need-slice-write-bytes
-slice-write-bytes c = search needs
-
-add-result-3 : tie.Need-add-result-3
-add-result-3 c = search needs
-
-same-length : tie.Need-same-length
-same-length c = search needs
 
 returns-3 : tie.Need-returns-3
 returns-3 c = record { bytes = rw (not-false (c .before .before .args .write) (c .before .if1 .left)); place = refl }
@@ -35,11 +20,11 @@ pub put-spec : {M : Type 1} → statement M
 put-spec =
     tie.close
     (tie.spec
-    add-result
+    (λ c. search needs)
     returns
-    add-result-2
+    (λ c. search needs)
     returns-2
-    slice-write-bytes
-    add-result-3
-    same-length
+    (λ c. search needs)
+    (λ c. search needs)
+    (λ c. search needs)
     returns-3)

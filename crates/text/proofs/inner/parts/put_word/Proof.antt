@@ -18,12 +18,6 @@ Inv-loop word bytes₀ at write place₀ i₀ bytes place i = (i ≤ length word
 abbrev μ-loop : tie.MeasureT-loop
 μ-loop word bytes₀ at write place₀ i₀ bytes place i = length word - i
 
-loop-holds : tie.Need-loop-holds Inv-loop μ-loop
-loop-holds c = (search needs, put-none _ _ _)
-
-shared-slice-read-put : tie.Need-shared-slice-read-put Inv-loop μ-loop
-shared-slice-read-put c = search needs
-
 -- ---- the loop's head
 
 module _ (c : tie.At-loop Inv-loop μ-loop) where
@@ -36,12 +30,6 @@ module _ (c : tie.At-loop Inv-loop μ-loop) where
 
 put-requires : tie.Need-put-requires Inv-loop μ-loop
 put-requires c κs = let h = c .before .before .before in omega (arith, is-place h, s h .pre, c .before .before .loop-test .taken)
-
-add-i : tie.Need-add-i Inv-loop μ-loop
-add-i c = search needs
-
-loop-less : tie.Need-loop-less Inv-loop μ-loop
-loop-less c = search needs
 
 loop-again : tie.Need-loop-again Inv-loop μ-loop
 loop-again c =
@@ -70,11 +58,11 @@ put-word-spec =
     (tie.spec
     Inv-loop
     μ-loop
-    loop-holds
-    shared-slice-read-put
+    (λ c. (search needs, put-none _ _ _))
+    (λ c. search needs)
     put-requires
-    add-i
-    loop-less
+    (λ c. search needs)
+    (λ c. search needs)
     loop-again
     same-length
     returns)
