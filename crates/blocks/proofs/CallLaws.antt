@@ -3,18 +3,19 @@ use mathlib.Core.Path.{_≡_, refl, sym, ap, _∙_}
 use mathlib.Core.Bool.{Bool, true, false}
 use mathlib.Core.List.{List, [], _∷_}
 use mathlib.Core.Logic.{inl, inr}
-use Prim.Native.Nat.{ℕ, _*_, _≤_, _<_}
+use Prim.Native.Nat.{ℕ, _*_}
 use native.Mathlib.Omega.{arith}
 use lib.ListN.{length}
 use Rattle.cells.specs.Answer.{given, Test, Decided, alone, keeping, TooDeep}
 use Rattle.cells.specs.declared.Answer.{Answer}
-use Rattle.cells.proofs.Decisions.{One, one-refuses, one-decided, Numbered, refuses-numbered, decided-first, decided-next, decided-holds}
+use Rattle.cells.proofs.Decisions.{One, one-equal, one-refuses, one-decided, Numbered, refuses-numbered, decided-first, decided-next, decided-holds}
 use Rattle.records.specs.Record.{Good}
-use Rattle.records.specs.Fault.{firstFault, Faulty}
-use Rattle.records.proofs.First.{at-first-fault, faultless-iff-good, first-fault-le}
+use Rattle.records.specs.Fault.{Faulty}
+use Rattle.records.specs.Writing.{TooShort}
+use Rattle.records.proofs.CallLaws.{not-faulty, faulty-numbered}
 use Rattle.blocks.specs.Block.{sound, depthOf, leaves, codes}
 use Rattle.blocks.specs.File.{blocksOf}
-use Rattle.blocks.specs.Calls.{Unsound, TooShort, BlockCheckOf, StoredVolumeOf, unread, ReadOf, WriteOf}
+use Rattle.blocks.specs.Calls.{Unsound, BlockCheckOf, StoredVolumeOf, unread, ReadOf, WriteOf}
 use Rattle.blocks.specs.declared.Reading.{Reading}
 
 -- ---- past the tests 9 and 2 to 4
@@ -28,14 +29,6 @@ pub record Held (b : List ℕ) (n : ℕ) : Type 0 where
 pub not-unsound : (t : Bool) → (t ≡ false → ⊥) → t ≡ true
 not-unsound true h = refl
 not-unsound false h = absurd (h refl)
-
-pub not-faulty : (D : ℕ) (l : List ℕ) (k : ℕ) → ((a : Answer) → Faulty D l k a → ⊥) → Good D l
-not-faulty D l k clean =
-    let none : firstFault D l < length l → ⊥ = λ h. clean _ (h, refl) in
-    faultless-iff-good D l .0 (omega (arith, first-fault-le D l))
-
-pub faulty-numbered : (D : ℕ) (l : List ℕ) (k : ℕ) (a : Answer) → Faulty D l k a → a .number ≡ 0 → ⊥
-faulty-numbered D l k a (h, e) z = at-first-fault D l h (ap (λ (x : Answer). x .number) (sym e) ∙ z)
 
 -- the file b is judged, and its answer is r
 abbrev pub JudgedOf : List ℕ → Answer → Type 0
@@ -72,10 +65,6 @@ module _ (b : List ℕ) (r : Answer) (d : JudgedOf b r) where
   found z = decided-holds (Unsound b ∷ Faulty (depthOf b) (codes b) 1 ∷ []) (λ (a : Answer). a ≡ given (leaves b)) r numbered z d
 
 -- ---- no second answer
-
--- only one thing equals a
-pub one-equal : {R : Type 0} {a : R} → One (λ (r : R). r ≡ a)
-one-equal r s e f = e ∙ sym f
 
 module _ (b : List ℕ) where
   pub one-check-blocks : One (BlockCheckOf b)

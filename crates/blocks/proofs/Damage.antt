@@ -18,7 +18,7 @@ use Rattle.blocks.specs.declared.Reading.{Reading}
 use Rattle.blocks.specs.Block.{word, check, soundBlock, blocks, whole, depthOf, firstUnsound, sound, wrongAt}
 use Rattle.blocks.specs.File.{byteOf}
 use Rattle.blocks.specs.Calls.{BlockCheckOf, StoredVolumeOf, unread, ReadOf}
-use Rattle.blocks.proofs.Sound.{Parts, wrong, parts, sound-whole, some-block, all-blocks}
+use Rattle.blocks.proofs.Sound.{Parts, wrong, parts, sound-whole}
 use Rattle.blocks.proofs.Words.{check-ext, check-small, carried, word-small, bytes-of-word}
 use Rattle.blocks.proofs.CallLaws.{one-check-blocks, one-stored-volume, one-read}
 

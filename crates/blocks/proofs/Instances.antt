@@ -13,7 +13,7 @@ use Rattle.cells.proofs.Decisions.{passes}
 use Rattle.cells.specs.Cell.{level, index, span, start, holds}
 use Rattle.records.specs.Record.{black, Good}
 use Rattle.records.specs.Count.{count}
-use Rattle.records.proofs.CallLaws.{checked}
+use Rattle.records.proofs.CallLaws.{checked, no-fault}
 use Rattle.records.proofs.Instances.{check-holds}
 use Rattle.blocks.specs.Block.{check, blocks, whole, sound, wrongAt}
 use Rattle.blocks.specs.File.{plain, fileOf}
@@ -21,7 +21,7 @@ use Rattle.blocks.specs.Calls.{BlockCheckOf, StoredVolumeOf, ReadOf, Wri
 use Rattle.blocks.specs.declared.Reading.{Reading}
 use Rattle.blocks.proofs.RoundTrip.{Storable, good-storable, file-sound, file-depth, file-leaves, file-codes}
 use Rattle.blocks.proofs.CallLaws.{one-check-blocks, one-stored-volume, one-read, one-write}
-use Rattle.blocks.proofs.Theorems.{no-fault, writes-good, reads-file}
+use Rattle.blocks.proofs.Theorems.{writes-good, reads-file}
 
 -- ---- document 01's checks: depth 3, the empty list, A = 5 and B = 623; [559], A = 565 and B = 68,944
 

@@ -2,31 +2,26 @@
 -- Each law takes the calls' own definitions. Assumes nothing.
 use mathlib.Core.Path.{_≡_, refl, sym, ap, ap₂, subst, _∙_}
 use mathlib.Core.Bool.{true}
-use mathlib.Core.List.{List, [], _∷_, _++_}
+use mathlib.Core.List.{List, _++_}
 use mathlib.Core.Logic.{inl, inr}
 use Prim.Native.Nat.{ℕ, _*_, _≤_, _<_}
 use native.Mathlib.Omega.{arith}
 use lib.ListN.{length, getD, take, drop}
 use lib.Seq.{take-at}
-use Rattle.cells.specs.Answer.{given, TooDeep, deepest}
+use Rattle.cells.specs.Answer.{given, deepest}
 use Rattle.cells.specs.declared.Answer.{Answer}
 use Rattle.cells.proofs.Bools.{clash}
 use Rattle.cells.proofs.Decisions.{passes, deep-enough}
 use Rattle.records.specs.Record.{Good}
-use Rattle.records.specs.Fault.{firstFault, Faulty}
-use Rattle.records.proofs.First.{faultless-iff-good}
-use Rattle.blocks.specs.Block.{sound, blocks, depthOf, leaves, codes}
+use Rattle.records.proofs.CallLaws.{not-faulty, faulty-numbered, no-fault}
+use Rattle.blocks.specs.Block.{sound, depthOf, leaves, codes}
 use Rattle.blocks.specs.File.{blocksOf, fileOf}
 use Rattle.blocks.specs.Calls.{ReadOf, WriteOf}
 use Rattle.blocks.specs.declared.Reading.{Reading}
 use Rattle.blocks.proofs.Sound.{all-blocks, shallow-file, codes-length}
 use Rattle.blocks.proofs.Files.{file-length}
 use Rattle.blocks.proofs.RoundTrip.{good-storable, file-sound, file-depth, file-leaves, file-codes, same-blocks, same-file}
-use Rattle.blocks.proofs.CallLaws.{not-faulty, not-unsound, faulty-numbered, one-read, one-write}
-
--- a good list has no fault
-pub no-fault : (D : ℕ) (l : List ℕ) → Good D l → firstFault D l < length l → ⊥
-no-fault D l g h = let e = faultless-iff-good D l .1 g in omega arith
+use Rattle.blocks.proofs.CallLaws.{not-unsound, one-read, one-write}
 
 -- ---- what success says
 

@@ -1,14 +1,12 @@
 -- Words and their bytes; a block's words carried from one function to another. Assumes nothing.
 use mathlib.Core.Path.{_≡_, refl, sym, ap, _∙_}
-use mathlib.Core.Bool.{Bool, true, false}
+use mathlib.Core.Bool.{true}
 use mathlib.Core.List.{List}
-use Prim.Native.Nat.{ℕ, zero, suc, _+_, _-_, _*_, _/_, _%_, _^_, _≤_, _<_}
+use Prim.Native.Nat.{ℕ, zero, suc, _+_, _-_, _*_, _%_, _^_, _≤_, _<_}
 use native.Mathlib.Omega.{arith}
 use lib.Dec.{eqb}
-use lib.ListN.{length, getD}
-use borrow.Author.Tests.{eq-eqb, eqb-true}
-use Rattle.records.specs.Fault.{allFrom}
-use Rattle.records.proofs.Fill.{all-true}
+use lib.ListN.{getD}
+use borrow.Author.Tests.{eq-eqb}
 use Rattle.records.proofs.Fault.{all-made}
 use Rattle.blocks.specs.declared.Sums.{Sums}
 use Rattle.blocks.specs.Block.{word, check, rightCount, soundBlock}

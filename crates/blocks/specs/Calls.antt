@@ -2,13 +2,14 @@
 use mathlib.Core.Path.{_≡_}
 use mathlib.Core.Bool.{false}
 use mathlib.Core.List.{List, [], _∷_, _++_}
-use Prim.Native.Nat.{ℕ, _*_, _^_, _<_}
+use Prim.Native.Nat.{ℕ, _*_, _^_}
 use lib.ListN.{length, drop}
 use Rattle.cells.specs.Answer.{answer, given, Test, Decided, alone, keeping, refuses, TooDeep}
 use Rattle.cells.specs.declared.Answer.{Answer}
 use Rattle.records.specs.Record.{black}
 use Rattle.records.specs.Count.{count}
 use Rattle.records.specs.Fault.{Faulty}
+use Rattle.records.specs.Writing.{TooShort}
 use Rattle.blocks.specs.declared.Reading.{Reading}
 use Rattle.blocks.specs.Block.{sound, wrongAt, depthOf, leaves, codes}
 use Rattle.blocks.specs.File.{blocksOf, fileOf}
@@ -16,10 +17,6 @@ use Rattle.blocks.specs.File.{blocksOf, fileOf}
 -- number 9: the stored blocks b are unsound
 abbrev pub Unsound : List ℕ → Test
 Unsound b = refuses (answer 9 (wrongAt b) 0) (sound b ≡ false)
-
--- number 8: n places or bytes are needed, and the buffer o has fewer
-abbrev pub TooShort : ℕ → List ℕ → Test
-TooShort n o = refuses (answer 8 n 0) (length o < n)
 
 -- THE CALL check_blocks: how many leaves the file holds
 abbrev pub BlockCheckOf : List ℕ → Answer → Type 0

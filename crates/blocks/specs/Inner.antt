@@ -4,7 +4,6 @@ use mathlib.Core.List.{List, [], _∷_}
 use Prim.Native.Nat.{ℕ, _+_}
 use lib.ListN.{set}
 use Rattle.cells.specs.Answer.{given, Decided, alone}
-use Rattle.cells.specs.declared.Answer.{Answer}
 use Rattle.records.specs.Fault.{Faulty}
 use Rattle.records.specs.Inner.{volume}
 use Rattle.blocks.specs.Block.{depthOf, leaves, codes}

@@ -81,3 +81,7 @@ pub decided-holds : (Fs : List Test) (P : Answer → Type 0) (r : Answer) → Nu
 decided-holds [] P r of-none z d = d
 decided-holds (F ∷ Fs) P r (of-f, of-fs) z (inl (a, t, e)) = absurd (of-f a t (ap (λ (x : Answer). x .number) (sym e) ∙ z))
 decided-holds (F ∷ Fs) P r (of-f, of-fs) z (inr (n, d)) = decided-holds Fs P r of-fs z d
+
+-- only one thing equals a
+pub one-equal : {R : Type 0} {a : R} → One (λ (r : R). r ≡ a)
+one-equal r s e f = e ∙ sym f

@@ -10,7 +10,7 @@ use Rattle.cells.specs.Answer.{keeping, TooDeep}
 use Rattle.cells.specs.declared.Answer.{Answer}
 use Rattle.cells.proofs.Decisions.{decided-all}
 use Rattle.records.specs.Fault.{Faulty}
-use Rattle.emit.specs.Writing.{Crowded, Written}
+use Rattle.records.specs.Writing.{Crowded, Written}
 use Rattle.sets.specs.declared.Op.{Op}
 use Rattle.sets.specs.Sets.{Taken, SetOf}
 use Rattle.metres.specs.Metres.{moveTests}

@@ -7,7 +7,7 @@ use lib.IntN.{pos}
 use Rattle.cells.specs.Answer.{Decided, keeping, TooDeep}
 use Rattle.records.specs.Record.{black}
 use Rattle.records.specs.Fault.{Faulty}
-use Rattle.emit.specs.Writing.{Crowded, Written}
+use Rattle.records.specs.Writing.{Crowded, Written}
 use Rattle.demands.specs.Laws.{Mover, Combiner, move}
 
 -- A call with the tests of join, meet and less, that gives the good list of the voxels that T takes, from whether they are black in the first list and in the

@@ -11,9 +11,9 @@ use Rattle.cells.specs.Answer.{answer, given, Decided, keeping}
 use Rattle.cells.specs.declared.Answer.{Answer}
 use Rattle.cells.proofs.Decisions.{One}
 use Rattle.records.specs.Record.{ListOf}
+use Rattle.records.specs.Writing.{Crowded, Written}
 use Rattle.records.proofs.OneList.{one-list, list-same}
 use Rattle.emit.specs.Inner.{puts, Result}
-use Rattle.emit.specs.Writing.{Crowded, Written}
 use Rattle.emit.proofs.Puts.{puts-front}
 
 -- the last test of a call and its success, past all other tests

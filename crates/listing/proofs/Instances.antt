@@ -1,21 +1,20 @@
 -- A text that is printed for a file, and one that is not. Assumes nothing.
-use mathlib.Core.Path.{_≡_, refl, sym, ap, ap₂, _∙_}
+use mathlib.Core.Path.{_≡_, refl, sym, ap}
 use mathlib.Core.Logic.{inl, inr}
 use mathlib.Core.List.{List, [], _∷_}
 use Prim.Native.Nat.{ℕ}
 use native.Mathlib.Omega.{arith}
 use lib.ListN.{getD}
-use Rattle.cells.specs.Answer.{given, deepest}
+use Rattle.cells.specs.Answer.{given}
 use Rattle.cells.proofs.Bools.{clash}
 use Rattle.cells.proofs.Decisions.{passes}
 use Rattle.records.specs.Record.{Good}
-use Rattle.records.proofs.CallLaws.{checked}
+use Rattle.records.proofs.CallLaws.{checked, no-fault}
 use Rattle.records.proofs.Instances.{check-holds}
 use Rattle.blocks.specs.Block.{blocks, whole, sound, wrongAt}
 use Rattle.blocks.specs.File.{fileOf}
 use Rattle.blocks.proofs.RoundTrip.{Storable, good-storable, file-sound, file-depth, file-codes}
-use Rattle.blocks.proofs.Theorems.{no-fault}
-use Rattle.text.specs.Text.{digits, textOf, refusedText}
+use Rattle.text.specs.Text.{digits, refusedText}
 use Rattle.text.proofs.Instances.{printed, text-is}
 use Rattle.listing.specs.Listing.{Printed}
 use Rattle.listing.proofs.Pages.{one-printed}

@@ -1,32 +1,32 @@
 -- Why the listing's buffers always suffice, and what `read`, `list_text` and `refused_text` then give; and no second text fits a file. Assumes nothing.
-use mathlib.Core.Path.{_≡_, refl, sym, ap, _∙_}
+use mathlib.Core.Path.{_≡_, refl, ap}
 use mathlib.Core.Bool.{true}
-use mathlib.Core.List.{List, [], _∷_, _++_}
+use mathlib.Core.List.{List, [], _∷_}
 use mathlib.Core.Logic.{inl, inr}
-use Prim.Native.Nat.{ℕ, _+_, _*_, _^_, _≤_, _<_}
+use Prim.Native.Nat.{ℕ, _+_, _*_, _^_, _≤_}
 use native.Mathlib.Omega.{arith}
 use lib.ListN.{length, drop, length-append}
 use Rattle.cells.specs.Answer.{given, deepest}
 use Rattle.cells.specs.declared.Answer.{Answer}
-use Rattle.cells.proofs.Decisions.{One, one-refuses, one-decided}
+use Rattle.cells.proofs.Decisions.{One, one-equal, one-refuses, one-decided}
 use Rattle.records.specs.Record.{black, Good}
 use Rattle.records.specs.Count.{count}
 use Rattle.records.specs.Fault.{Faulty}
+use Rattle.records.specs.Writing.{stands}
+use Rattle.records.proofs.CallLaws.{no-fault}
 use Rattle.blocks.specs.Block.{sound, depthOf, leaves, codes}
 use Rattle.blocks.specs.Calls.{Unsound, ReadOf}
 use Rattle.blocks.specs.declared.Reading.{Reading}
 use Rattle.blocks.proofs.Sound.{all-blocks, leaves-most}
-use Rattle.blocks.proofs.CallLaws.{not-unsound, one-equal}
-use Rattle.blocks.proofs.Theorems.{no-fault}
+use Rattle.blocks.proofs.CallLaws.{not-unsound}
 use Rattle.text.specs.Text.{pathLines, textOf, TextOf, refusedText, RefusedOf}
 use Rattle.text.specs.Inner.{headLine}
 use Rattle.text.proofs.Digits.{paths-length, listing-lines, head-length, refused-length}
-use Rattle.listing.specs.Listing.{longest, refusedLine, Printed, Page}
+use Rattle.listing.specs.Listing.{longest, mostCodes, refusedLine, Printed, Page}
 
 -- ---- room
 
--- 128 blocks
-pub few-codes : (b : List ℕ) → sound b ≡ true → length b ≤ longest → leaves b ≤ 15616
+pub few-codes : (b : List ℕ) → sound b ≡ true → length b ≤ longest → leaves b ≤ mostCodes
 few-codes b s h = omega (arith, leaves-most b s, all-blocks b s)
 
 pub text-length : (D : ℕ) (l : List ℕ) → D ≤ deepest → length (textOf D l) ≤ 83 + 12 * length l
@@ -37,7 +37,7 @@ text-length D l h =
 -- ---- the calls, where there is room
 
 -- a refusal of the reader is never for room
-pub refused-printed : (b o : List ℕ) (r : Reading) (o' : List ℕ) → ReadOf b o r o' → (r .answer .number ≡ 0 → ⊥) → length b ≤ longest → 15616 ≤ length o → Printed b (refusedLine (r .answer))
+pub refused-printed : (b o : List ℕ) (r : Reading) (o' : List ℕ) → ReadOf b o r o' → (r .answer .number ≡ 0 → ⊥) → length b ≤ longest → mostCodes ≤ length o → Printed b (refusedLine (r .answer))
 refused-printed b o r o' (inl (a, t, e)) some h room = inl (a, t, ap (λ (x : Reading × List ℕ). refusedLine (x .0 .answer)) e)
 refused-printed b o r o' (inr (p, inl (a, t, e))) some h room = inr (p, inl (a, t, ap (λ (x : Reading × List ℕ). refusedLine (x .0 .answer)) e))
 refused-printed b o r o' (inr (p, inr (q, inl (a, (short, _), e)))) some h room =
@@ -47,7 +47,7 @@ refused-printed b o r o' (inr (p, inr (q, inr (_, e)))) some h room = absurd (so
 -- a text stands at the front
 pub record Front (t o : List ℕ) (r : Answer) (after : List ℕ) : Type 0 where
   pub is-answer : r ≡ given (length t)
-  pub is-after : after ≡ t ++ drop (length t) o
+  pub is-after : after ≡ stands t o
 
 pub text-front : (D : ℕ) (l o : List ℕ) (r : Answer) (o' : List ℕ) → TextOf D l o r o' → D ≤ deepest → Good D l → length (textOf D l) ≤ length o → Front (textOf D l) o r o'
 text-front D l o r o' (inl (a, (deep, _), e)) h g room = absurd (omega arith)

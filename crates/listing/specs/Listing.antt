@@ -1,18 +1,26 @@
 -- What the listing program prints for a stored file: document 01, "Listing program". Definitions only.
 use mathlib.Core.Path.{_≡_}
-use mathlib.Core.List.{List, [], _∷_, _++_}
-use Prim.Native.Nat.{ℕ}
-use lib.ListN.{length, drop}
+use mathlib.Core.List.{List, [], _∷_}
+use Prim.Native.Nat.{ℕ, _+_, _*_}
+use lib.ListN.{length}
 use Rattle.cells.specs.Answer.{Decided}
 use Rattle.cells.specs.declared.Answer.{Answer}
 use Rattle.records.specs.Fault.{Faulty}
+use Rattle.records.specs.Writing.{stands}
 use Rattle.blocks.specs.Block.{depthOf, codes}
 use Rattle.blocks.specs.Calls.{Unsound}
 use Rattle.text.specs.Text.{textOf, refusedText}
 
--- how many bytes are read at most
+-- how many bytes are read at most: 128 blocks
 abbrev pub longest : ℕ
-longest = 65536
+longest = 128 * 512
+
+-- the codes that they hold at most, and the bytes of their text: the first line has at most 83, a path at most 12
+abbrev pub mostCodes : ℕ
+mostCodes = 128 * 122
+
+abbrev pub longestText : ℕ
+longestText = 83 + 12 * mostCodes
 
 -- a refusal's line
 abbrev pub refusedLine : Answer → List ℕ
@@ -27,4 +35,4 @@ pub record Page (b o : List ℕ) (r : ℕ) (after : List ℕ) : Type 0 where
   pub text : List ℕ
   pub printed : Printed b text
   pub count : r ≡ length text
-  pub written : after ≡ text ++ drop (length text) o
+  pub written : after ≡ stands text o

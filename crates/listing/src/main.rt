@@ -7,11 +7,18 @@ use text::list_text;
 use text::refused_text;
 ghost use Prim.Native.Nat.{_≤_};
 ghost use lib.ListN.{length};
-ghost use Rattle.listing.specs.Listing.{longest, Page};
+ghost use Rattle.listing.specs.Listing.{longest, mostCodes, longestText, Page};
 
-// The text of a file at the front of `text`, and its length. 128 blocks hold at most 15,616 codes, a path has at most 12 bytes, and the first line at most 83.
+// The bytes of the longest file: 128 blocks.
+const LONGEST: usize = 128 * 512;
+// The codes that they hold at most, 122 a block.
+const MOST_CODES: usize = 128 * 122;
+// The bytes of the longest text: the first line has at most 83, a path at most 12.
+const LONGEST_TEXT: usize = 83 + 12 * MOST_CODES;
+
+// The text of a file at the front of `text`, and its length.
 fn page(bytes: &[u8], codes: &mut [u32], text: &mut [u8]) -> usize
-    requires { ⌜ (length (now bytes) ≤ longest) × (15616 ≤ length (now codes)) × (187475 ≤ length (now text)) ⌝ }
+    requires { ⌜ (length (now bytes) ≤ longest) × (mostCodes ≤ length (now codes)) × (longestText ≤ length (now text)) ⌝ }
     ensures { λ r. ⌜ Page (now (bytes .entry)) (now (text .entry)) r (now (text .exit)) ⌝ }
 {
     let found = read(bytes, codes);
@@ -28,14 +35,14 @@ fn page(bytes: &[u8], codes: &mut [u32], text: &mut [u8]) -> usize
 }
 
 fn main() {
-    let mut bytes = [0u8; 65537];
+    let mut bytes = [0u8; LONGEST + 1];
     let n = io::read_full(STDIN_FILENO, &mut bytes);
-    if 65536 < n {
+    if LONGEST < n {
         io::write_all(STDOUT_FILENO, b"too long\n");
         return;
     }
-    let mut codes = [0u32; 15616];
-    let mut text = [0u8; 187475];
+    let mut codes = [0u32; MOST_CODES];
+    let mut text = [0u8; LONGEST_TEXT];
     let size = page(&bytes[..n], &mut codes, &mut text);
     io::write_all(STDOUT_FILENO, &text[..size]);
 }

@@ -16,7 +16,7 @@ use Rattle.records.specs.Fault.{allFrom, firstFault, Faulty}
 use Rattle.records.proofs.First.{faultless-iff-good}
 use Rattle.records.proofs.Fill.{all-true, goodList}
 use Rattle.records.proofs.OneList.{good-list, list-same}
-use Rattle.emit.specs.Writing.{Crowded, Written}
+use Rattle.records.specs.Writing.{Crowded, Written}
 use Rattle.emit.proofs.Answers.{Told, told-crowded, told-written, one-crowded, one-written}
 use Rattle.metres.specs.Metres.{moveTests, Becomes}
 use Rattle.metres.specs.declared.Move.{Move}

@@ -12,7 +12,7 @@ use Rattle.cells.specs.Place.{Came}
 use Rattle.cells.specs.declared.Answer.{Answer}
 use Rattle.records.specs.Record.{black}
 use Rattle.records.specs.Fault.{Faulty}
-use Rattle.emit.specs.Writing.{Crowded, Written}
+use Rattle.records.specs.Writing.{Crowded, Written}
 use Rattle.metres.specs.Metres.{moveTests, Becomes}
 use Rattle.metres.specs.declared.Move.{Move}
 

@@ -7,7 +7,7 @@ use native.Mathlib.Omega.{arith}
 use lib.ListN.{length}
 use Rattle.cells.specs.Answer.{given, Test, Decided, alone, TooDeep, deepest}
 use Rattle.cells.specs.declared.Answer.{Answer}
-use Rattle.cells.proofs.Decisions.{One, one-refuses, one-decided, Numbered, refuses-numbered, decided-first, decided-next}
+use Rattle.cells.proofs.Decisions.{One, one-equal, one-refuses, one-decided, Numbered, refuses-numbered, decided-first, decided-next}
 use Rattle.records.specs.Record.{Good}
 use Rattle.records.specs.Fault.{firstFault, Faulty}
 use Rattle.records.specs.Calls.{NoVoxel, CheckOf, LookupOf, VolumeOf}
@@ -50,10 +50,6 @@ module _ (D : ℕ) (l : List ℕ) (r : Answer) (d : CheckOf D l r) where
 
 -- ---- no second answer
 
--- only one answer equals a
-one-equal : {a : Answer} → One (λ (r : Answer). r ≡ a)
-one-equal r s e f = e ∙ sym f
-
 module _ (D : ℕ) (l : List ℕ) where
   pub one-check : One (CheckOf D l)
   one-check = one-decided alone (TooDeep D ∷ Faulty D l 1 ∷ []) _ (one-refuses, (one-refuses, tt)) one-equal
@@ -63,3 +59,17 @@ module _ (D : ℕ) (l : List ℕ) where
 
   pub one-lookup : (x y z : ℕ) → One (LookupOf D l x y z)
   one-lookup x y z = one-decided alone (TooDeep D ∷ Faulty D l 1 ∷ NoVoxel D x y z ∷ []) _ (one-refuses, (one-refuses, (one-refuses, tt))) one-equal
+
+-- ---- the list alone
+
+pub not-faulty : (D : ℕ) (l : List ℕ) (k : ℕ) → ((a : Answer) → Faulty D l k a → ⊥) → Good D l
+not-faulty D l k clean =
+    let none : firstFault D l < length l → ⊥ = λ h. clean _ (h, refl) in
+    faultless-iff-good D l .0 (omega (arith, first-fault-le D l))
+
+pub faulty-numbered : (D : ℕ) (l : List ℕ) (k : ℕ) (a : Answer) → Faulty D l k a → a .number ≡ 0 → ⊥
+faulty-numbered D l k a (h, e) z = at-first-fault D l h (ap (λ (x : Answer). x .number) (sym e) ∙ z)
+
+-- a good list has no fault
+pub no-fault : (D : ℕ) (l : List ℕ) → Good D l → firstFault D l < length l → ⊥
+no-fault D l g h = let e = faultless-iff-good D l .1 g in omega arith

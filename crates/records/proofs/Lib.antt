@@ -18,6 +18,8 @@ pub mod Volume
 -- the leaves that meet a cell stand together; what the search finds
 pub mod Part
 pub mod Search
+-- what is written to the front of a buffer
+pub mod Writing
 -- what follows of the calls, and instances
 pub mod CallLaws
 pub mod MetLaws

@@ -3,6 +3,7 @@ pub mod Record
 pub mod Count
 pub mod Fault
 pub mod Calls
+pub mod Writing
 pub mod Met
 -- the vocabulary of private and inner functions
 pub mod Inner

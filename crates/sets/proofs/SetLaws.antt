@@ -5,7 +5,7 @@ use Rattle.cells.specs.Answer.{keeping, TooDeep}
 use Rattle.cells.specs.declared.Answer.{Answer}
 use Rattle.cells.proofs.Decisions.{One, one-refuses, one-decided}
 use Rattle.records.specs.Fault.{Faulty}
-use Rattle.emit.specs.Writing.{Crowded, Written}
+use Rattle.records.specs.Writing.{Crowded, Written}
 use Rattle.emit.proofs.Answers.{one-crowded, one-written}
 use Rattle.sets.specs.declared.Op.{Op}
 use Rattle.sets.specs.Sets.{Taken, SetOf}

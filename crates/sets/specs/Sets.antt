@@ -8,7 +8,7 @@ use Rattle.cells.specs.Answer.{Decided, keeping, TooDeep}
 use Rattle.cells.specs.declared.Answer.{Answer}
 use Rattle.records.specs.Record.{black}
 use Rattle.records.specs.Fault.{Faulty}
-use Rattle.emit.specs.Writing.{Crowded, Written}
+use Rattle.records.specs.Writing.{Crowded, Written}
 use Rattle.sets.specs.declared.Op.{Op}
 use Rattle.sets.specs.declared.Op.the-variants.{Join, Meet, Less}
 

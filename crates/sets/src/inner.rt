@@ -14,7 +14,7 @@ ghost use mathlib.Core.List.{List, [], _∷_};
 ghost use Prim.Native.Nat.{ℕ, _≤_, _<_, _^_, min, max};
 ghost use Rattle.cells.specs.Answer.{Decided, keeping, deepest};
 ghost use Rattle.records.specs.Record.{Ordered};
-ghost use Rattle.emit.specs.Writing.{Crowded, Written};
+ghost use Rattle.records.specs.Writing.{Crowded, Written};
 ghost use Rattle.emit.specs.Inner.{Result};
 ghost use Rattle.sets.specs.Sets.{Taken};
 ghost use Rattle.sets.specs.Inner.{taken, both, Behind, Points, Steady};

@@ -1,46 +1,41 @@
 -- The laws of the calls that give a text: counted first and then written, and no second answer fits. Assumes nothing.
-use mathlib.Core.Path.{_≡_, refl, sym, ap, ap₂, _∙_}
-use mathlib.Core.Bool.{true, false}
+use mathlib.Core.Path.{_≡_, refl, sym, ap, _∙_}
 use mathlib.Core.List.{List, [], _∷_, _++_}
 use mathlib.Core.Logic.{inl, inr}
 use Prim.Native.Nat.{ℕ, _^_, _≤_, _<_}
 use native.Mathlib.Omega.{arith}
-use lib.ListN.{length, drop}
-use Rattle.cells.specs.Answer.{answer, given, Test, Decided, alone, keeping, TooDeep, deepest}
+use lib.ListN.{length, take, drop}
+use Rattle.cells.specs.Answer.{answer, given, Test, Decided, keeping, TooDeep, deepest}
 use Rattle.cells.specs.declared.Answer.{Answer}
-use Rattle.cells.proofs.Decisions.{One, one-refuses, one-decided, passes, Numbered, refuses-numbered, decided-first, decided-next}
+use Rattle.cells.proofs.Decisions.{One, one-equal, one-refuses, one-decided, Numbered, refuses-numbered, decided-first, decided-next}
 use Rattle.records.specs.Record.{black, Good}
 use Rattle.records.specs.Count.{count}
 use Rattle.records.specs.Fault.{Faulty}
 use Rattle.records.specs.Calls.{VolumeOf}
 use Rattle.records.proofs.Most.{few-leaves}
-use Rattle.blocks.specs.Calls.{TooShort}
-use Rattle.blocks.proofs.CallLaws.{not-faulty, faulty-numbered, one-equal}
+use Rattle.records.specs.Writing.{stands, TooShort}
+use Rattle.records.proofs.CallLaws.{not-faulty, faulty-numbered}
+use Rattle.records.proofs.Writing.{sets-counted, sets-stands, Standing, too-short, standing}
 use Rattle.text.specs.Text.{textOf, TextOf, refusedText, RefusedOf}
 use Rattle.text.specs.Inner.{Put}
-use Rattle.text.proofs.Puts.{put-front}
 
--- ---- a text counted, and then written
+-- ---- a text put into the empty part of the bytes o, which counts it, and then into the part that it needs
 
--- the text t stands at the front of the bytes o
-abbrev pub Stands : List ℕ → List ℕ → Answer × List ℕ → Type 0
-Stands t o x = x ≡ (given (length t), t ++ drop (length t) o)
+module _ (t o e : List ℕ) (need : ℕ) (p : Put (take 0 o) 0 t e need) where
+  abbrev o₁ : List ℕ
+  o₁ = e ++ drop 0 o
 
-module _ (t o o₁ : List ℕ) (need : ℕ) (p : Put false o 0 t o₁ need) where
   counted : need ≡ length t
   counted = omega (arith, p .place)
 
-  -- counting changes nothing
-  pub too-short : length o₁ < need → (r : Answer) → r ≡ answer 8 need 0 → Decided (keeping o) (TooShort (length t) o ∷ []) (Stands t o) (r, o₁)
-  too-short h r e = inl (_, (omega (arith, counted, ap length (p .bytes)), refl), ap₂ (λ (a : Answer) (l : List ℕ). (a, l)) (e ∙ ap (λ (n : ℕ). answer 8 n 0) counted) (p .bytes))
+  kept : o₁ ≡ o
+  kept = sets-counted o e t (p .bytes)
 
-  pub stands : need ≤ length o₁ → (o₂ : List ℕ) (n : ℕ) → Put true o₁ 0 t o₂ n → (r : Answer) → r ≡ given need → Decided (keeping o) (TooShort (length t) o ∷ []) (Stands t o) (r, o₂)
-  stands h o₂ n q r e =
-      let room : length t ≤ length o₁ = omega (arith, counted) in
-      inr (
-        passes (λ x. omega (arith, ap length (p .bytes))),
-        ap₂ (λ (a : Answer) (l : List ℕ). (a, l)) (e ∙ ap given counted) (put-front o₁ t o₂ n q room ∙ ap (λ (l : List ℕ). t ++ drop (length t) l) (p .bytes)),
-      )
+  pub text-short : length o₁ < need → (r : Answer) → r ≡ answer 8 need 0 → Standing t o (r, o₁)
+  text-short h r a = too-short t o need counted r _ (omega (arith, ap length kept)) a kept
+
+  pub text-stands : need ≤ length o₁ → (e₂ : List ℕ) (n : ℕ) → Put (take need o₁) 0 t e₂ n → (r : Answer) → r ≡ given need → Standing t o (r, e₂ ++ drop need o₁)
+  text-stands h e₂ n q r a = standing t o need counted r _ (omega (arith, ap length kept)) a (sets-stands o₁ e₂ t need counted h (q .bytes) ∙ ap (stands t) kept)
 
 -- ---- past `volume`
 

@@ -1,5 +1,5 @@
 -- The digits of a number, the labels of a code and the lines of a list, put part by part. Assumes nothing.
-use mathlib.Core.Path.{_≡_, refl, sym, ap, ap₂, subst, _∙_}
+use mathlib.Core.Path.{_≡_, refl, sym, ap, _∙_}
 use mathlib.Core.Bool.{Bool, true, false}
 use mathlib.Core.List.{List, [], _∷_, _++_, append-assoc}
 use Prim.Native.Nat.{ℕ, zero, suc, _+_, _-_, _*_, _/_, _%_, _^_, _≤_, _<_}
@@ -15,7 +15,7 @@ use Rattle.cells.proofs.Power.{pow8-pos, pow8-suc}
 use Rattle.cells.proofs.Cells.{level-le, proper-bounds}
 use Rattle.text.specs.Text.{digits, decimal, labels, pathLine, pathLines, depthWord, leavesWord, volumeWord, listing, refusedWord, refusedText}
 use Rattle.text.specs.Inner.{Put, Labelled, field, headLine}
-use Rattle.text.proofs.Puts.{put-append}
+use Rattle.text.proofs.Puts.{put-append, put-as}
 
 -- ---- a number in decimal
 
@@ -38,13 +38,10 @@ digits-length b (suc f) n = go (ltb n b) (digits-length b f (n / b))
     go false h = omega (arith, length-append (digits b f (n / b)) ((48 + n % b) ∷ []))
 
 -- the last digit after the others
-pub put-digits : (write : Bool) (o : List ℕ) (at n f : ℕ) → 10 ≤ n → n < 10 ^ suc f
-    → (o₁ : List ℕ) (n₁ : ℕ) → ((g : ℕ) → n / 10 < 10 ^ suc g → Put write o at (digits 10 g (n / 10)) o₁ n₁)
-    → (o₂ : List ℕ) (n₂ : ℕ) → Put write o₁ n₁ ((48 + n % 10) ∷ []) o₂ n₂ → Put write o at (digits 10 f n) o₂ n₂
-put-digits write o at n zero h b o₁ n₁ p o₂ n₂ q = absurd (omega arith)
-put-digits write o at n (suc g) h b o₁ n₁ p o₂ n₂ q =
-    subst (λ (l : List ℕ). Put write o at l o₂ n₂) (sym (digits-more g n h))
-    (put-append write o at (digits 10 g (n / 10)) o₁ n₁ (p g (omega (arith, pow-succ' 10 (suc g)))) ((48 + n % 10) ∷ []) o₂ n₂ q)
+pub put-digits : (n f : ℕ) → 10 ≤ n → n < 10 ^ suc f → {o : List ℕ} {at : ℕ} {o₁ : List ℕ} {n₁ : ℕ} → ((g : ℕ) → n / 10 < 10 ^ suc g → Put o at (digits 10 g (n / 10)) o₁ n₁)
+    → {o₂ : List ℕ} {n₂ : ℕ} → Put o₁ n₁ ((48 + n % 10) ∷ []) o₂ n₂ → Put o at (digits 10 f n) o₂ n₂
+put-digits n zero h b p q = absurd (omega arith)
+put-digits n (suc g) h b p q = put-as (sym (digits-more g n h)) (put-append (p g (omega (arith, pow-succ' 10 (suc g)))) q)
 
 -- ---- labels
 
@@ -58,21 +55,19 @@ pub labelled-parent : (c k i : ℕ) → Labelled c (suc k) i → Labelled (c / 8
 labelled-parent c k i (e, h) = (omega (arith, pow8-suc k), omega (arith, pow8-suc k))
 
 -- no label
-pub labels-none : (write : Bool) (o : List ℕ) (at c : ℕ) → c < 8 → (k i : ℕ) → Labelled c k i → (after : List ℕ) (r : ℕ) → Put write o at [] after r → Put write o at (labels k i) after r
+pub labels-none : (c : ℕ) → c < 8 → (k i : ℕ) → Labelled c k i → labels k i ≡ []
 unfolding labels
-labels-none write o at c h zero i l after r p = p
-labels-none write o at c h (suc k) i (e, b) after r p = absurd (omega (arith, pow8-suc k, pow8-pos k))
+labels-none c h zero i l = refl
+labels-none c h (suc k) i (e, b) = absurd (omega (arith, pow8-suc k, pow8-pos k))
 
 -- the last label after the others
-pub put-label : (write : Bool) (o : List ℕ) (at c : ℕ) → 8 ≤ c → (k i : ℕ) → Labelled c k i
-    → (o₁ : List ℕ) (n₁ : ℕ) → ((j m : ℕ) → Labelled (c / 8) j m → Put write o at (labels j m) o₁ n₁)
-    → (o₂ : List ℕ) (n₂ : ℕ) → Put write o₁ n₁ ((48 + c % 8) ∷ []) o₂ n₂ → Put write o at (labels k i) o₂ n₂
+pub put-label : (c : ℕ) → 8 ≤ c → (k i : ℕ) → Labelled c k i → {o : List ℕ} {at : ℕ} {o₁ : List ℕ} {n₁ : ℕ} → ((j m : ℕ) → Labelled (c / 8) j m → Put o at (labels j m) o₁ n₁)
+    → {o₂ : List ℕ} {n₂ : ℕ} → Put o₁ n₁ ((48 + c % 8) ∷ []) o₂ n₂ → Put o at (labels k i) o₂ n₂
 unfolding labels
-put-label write o at c h zero i (e, b) o₁ n₁ p o₂ n₂ q = absurd (omega arith)
-put-label write o at c h (suc k) i l o₁ n₁ p o₂ n₂ q =
+put-label c h zero i (e, b) p q = absurd (omega arith)
+put-label c h (suc k) i l p q =
     let e : c % 8 ≡ i % 8 = omega (arith, l .0, pow8-suc k) in
-    put-append write o at (labels k (i / 8)) o₁ n₁ (p k (i / 8) (labelled-parent c k i l)) ((48 + i % 8) ∷ []) o₂ n₂
-    (subst (λ (d : ℕ). Put write o₁ n₁ ((48 + d) ∷ []) o₂ n₂) e q)
+    put-append (p k (i / 8) (labelled-parent c k i l)) (put-as (ap (λ (d : ℕ). (48 + d) ∷ []) e) q)
 
 -- the labels of a proper code
 pub proper-labelled : (D c : ℕ) → proper D c ≡ true → Labelled c (level D c) (index D c)
@@ -105,9 +100,6 @@ paths-more D l i h =
     nothing (a ∷ x) = ap (λ (y : List ℕ). a ∷ y) (nothing x)
 
 -- ---- whole texts
-
-pub field-length : (w : List ℕ) (n : ℕ) → length (field w n) ≤ length w + 20
-field-length w n = omega (arith, length-append w (decimal n), digits-length 10 19 n)
 
 regrouped : (a b c d e f g h : List ℕ) → a ++ (b ++ (c ++ (d ++ (e ++ (f ++ (g ++ h)))))) ≡ ((((a ++ b) ++ (c ++ d)) ++ (e ++ f)) ++ g) ++ h
 regrouped a b c d e f g h = simp append-assoc

@@ -11,9 +11,8 @@ use Rattle.cells.specs.declared.Answer.{Answer}
 use Rattle.cells.proofs.Decisions.{passes}
 use Rattle.records.specs.Record.{black, Good}
 use Rattle.records.specs.Count.{count}
-use Rattle.records.proofs.CallLaws.{checked}
+use Rattle.records.proofs.CallLaws.{checked, no-fault}
 use Rattle.records.proofs.Instances.{check-holds}
-use Rattle.blocks.proofs.Theorems.{no-fault}
 use Rattle.text.specs.Text.{digits, labels, pathLines, listing, textOf, TextOf, refusedText, RefusedOf}
 use Rattle.text.proofs.CallLaws.{one-text, one-refused}
 

@@ -1,15 +1,14 @@
 -- INNER: for the contracts of the functions that put text into a buffer. Definitions only.
 use mathlib.Core.Path.{_≡_}
-use mathlib.Core.Bool.{Bool}
 use mathlib.Core.List.{List, [], _∷_, _++_}
 use Prim.Native.Nat.{ℕ, _+_, _^_, _<_}
 use lib.ListN.{length}
-use Rattle.emit.specs.Inner.{puts}
+use lib.Seq.{sets}
 use Rattle.text.specs.Text.{decimal, depthWord, leavesWord, volumeWord}
 
--- the text l is put over the bytes o from place `at` on, where it is to be written, which leaves `after`; r is the place after it
-pub record Put (write : Bool) (o : List ℕ) (at : ℕ) (l after : List ℕ) (r : ℕ) : Type 0 where
-  pub bytes : after ≡ puts write o at l
+-- the text l is put over the bytes o from place `at` on, which leaves `after`: a byte past their end changes nothing; r is the place after it
+pub record Put (o : List ℕ) (at : ℕ) (l after : List ℕ) (r : ℕ) : Type 0 where
+  pub bytes : after ≡ sets o at l
   pub place : r ≡ at + length l
 
 -- the code c is r followed by k labels, i in base 8

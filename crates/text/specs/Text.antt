@@ -4,14 +4,14 @@ use mathlib.Core.Bool.{true, false}
 use mathlib.Core.List.{List, [], _∷_, _++_}
 use Prim.Native.Nat.{ℕ, zero, suc, _+_, _/_, _%_, _^_}
 use lib.Dec.{ltb}
-use lib.ListN.{length, drop}
+use lib.ListN.{length}
 use Rattle.cells.specs.Answer.{given, Decided, keeping, TooDeep}
 use Rattle.cells.specs.Cell.{level, index}
 use Rattle.cells.specs.declared.Answer.{Answer}
 use Rattle.records.specs.Record.{black}
 use Rattle.records.specs.Count.{count}
 use Rattle.records.specs.Fault.{Faulty}
-use Rattle.blocks.specs.Calls.{TooShort}
+use Rattle.records.specs.Writing.{stands, TooShort}
 
 -- the digits of n in base b, at most f + 1 of them, no zeros in front
 unfoldable pub digits : ℕ → ℕ → ℕ → List ℕ
@@ -58,7 +58,7 @@ textOf D l = listing D l (count (black D l) (8 ^ D))
 abbrev pub TextOf : ℕ → List ℕ → List ℕ → Answer → List ℕ → Type 0
 TextOf D l o r o' =
     Decided (keeping o) (TooDeep D ∷ Faulty D l 1 ∷ TooShort (length (textOf D l)) o ∷ [])
-    (λ t. t ≡ (given (length (textOf D l)), textOf D l ++ drop (length (textOf D l)) o)) (r, o')
+    (λ t. t ≡ (given (length (textOf D l)), stands (textOf D l) o)) (r, o')
 
 -- "refused "
 abbrev pub refusedWord : List ℕ
@@ -72,4 +72,4 @@ refusedText n p = refusedWord ++ (decimal n ++ (32 ∷ (decimal p ++ (10 ∷ [])
 abbrev pub RefusedOf : ℕ → ℕ → List ℕ → Answer → List ℕ → Type 0
 RefusedOf n p o r o' =
     Decided (keeping o) (TooShort (length (refusedText n p)) o ∷ [])
-    (λ t. t ≡ (given (length (refusedText n p)), refusedText n p ++ drop (length (refusedText n p)) o)) (r, o')
+    (λ t. t ≡ (given (length (refusedText n p)), stands (refusedText n p) o)) (r, o')

@@ -20,11 +20,11 @@ pub fn list_text(depth: u32, list: &[u32], bytes: &mut [u8]) -> Answer
     if number != 0 {
         return measured;
     }
-    let need = put_listing(depth, list, voxels, bytes, false);
+    let need = put_listing(depth, list, voxels, &mut bytes[..0]);
     if bytes.len() < need {
         return refusal(8, need as u64, 0);
     }
-    put_listing(depth, list, voxels, bytes, true);
+    put_listing(depth, list, voxels, &mut bytes[..need]);
     success(need as u64)
 }
 
@@ -32,10 +32,10 @@ pub fn list_text(depth: u32, list: &[u32], bytes: &mut [u8]) -> Answer
 pub fn refused_text(number: u32, place: u64, bytes: &mut [u8]) -> Answer
     ensures { λ r. ⌜ RefusedOf number place (now (bytes .entry)) r (now (bytes .exit)) ⌝ }
 {
-    let need = put_refused(number, place, bytes, false);
+    let need = put_refused(number, place, &mut bytes[..0]);
     if bytes.len() < need {
         return refusal(8, need as u64, 0);
     }
-    put_refused(number, place, bytes, true);
+    put_refused(number, place, &mut bytes[..need]);
     success(need as u64)
 }

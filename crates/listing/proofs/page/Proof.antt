@@ -1,6 +1,5 @@
 -- `listing::page` meets its contract: neither the codes nor the text are ever short of room. Assumes nothing.
 use mathlib.Core.Path.{_≡_, refl, sym, ap, ap₂, subst, _∙_}
-use mathlib.Core.Bool.{true}
 use mathlib.Core.List.{List}
 use mathlib.Core.Logic.{inr}
 use Prim.Native.Nat.{ℕ, _≤_}
@@ -11,12 +10,14 @@ use lib.Seq.{take-at, length-take-le}
 use Rattle.cells.specs.declared.Answer.{Answer}
 use Rattle.cells.proofs.Bools.{clash}
 use Rattle.cells.proofs.Decisions.{passes}
+use Rattle.records.proofs.CallLaws.{no-fault}
 use Rattle.blocks.specs.Block.{depthOf, leaves, codes}
 use Rattle.blocks.specs.declared.Reading.{Reading}
 use Rattle.blocks.proofs.Sound.{shallow-file, codes-length}
-use Rattle.blocks.proofs.Theorems.{Taken, taken, no-fault}
+use Rattle.blocks.proofs.Theorems.{Taken, taken}
 use Rattle.text.specs.Text.{textOf, TextOf, refusedText}
-use Rattle.listing.proofs.Pages.{few-codes, text-length, refused-printed, Front, text-front, refused-front}
+use Rattle.listing.specs.Listing.{mostCodes}
+use Rattle.listing.proofs.Pages.{few-codes, text-length, refused-printed, text-front, refused-front}
 use Rattle.listing.proofs.page.Statement.{statement}
 use Rattle.listing.proofs.page.Tie as tie
 
@@ -64,7 +65,7 @@ module _ (c : tie.Else1) where
   front = ap₂ take is-place (file .is-after) ∙ take-at (codes b) (drop (leaves b) (s .args .codes .now)) (leaves b) (codes-length b)
 
   -- they fit
-  few : leaves b ≤ 15616
+  few : leaves b ≤ mostCodes
   few = few-codes b (file .is-sound) (s .pre .0)
 
   room : d .read .result .answer .place ≤ length (d .read .last .1 .0)

@@ -1,17 +1,18 @@
 -- `text::list_text` meets its contract. Assumes nothing.
 use mathlib.Core.Path.{_≡_, sym, ap}
-use mathlib.Core.Bool.{Bool}
 use mathlib.Core.List.{List, [], _∷_}
 use Prim.Native.Nat.{ℕ}
 use borrow.Author.Needs.{needs}
 use lib.ListN.{length}
-use Rattle.cells.specs.Answer.{Decided, keeping}
+use lib.Seq.{length-take-le}
+use Rattle.cells.specs.Answer.{given, keeping}
 use Rattle.cells.specs.declared.Answer.{Answer}
-use Rattle.blocks.specs.Calls.{TooShort}
+use Rattle.records.specs.Writing.{stands, TooShort}
+use Rattle.records.proofs.Writing.{Standing}
 use Rattle.text.specs.Text.{listing, textOf, TextOf}
 use Rattle.text.specs.Inner.{Put}
 use Rattle.text.proofs.Puts.{put-as}
-use Rattle.text.proofs.CallLaws.{Stands, too-short, stands, Measured, volume-first, volume-next, measured}
+use Rattle.text.proofs.CallLaws.{text-short, text-stands, Measured, volume-first, volume-next, measured}
 use Rattle.text.proofs.list_text.Statement.{statement}
 use Rattle.text.proofs.list_text.Tie as tie
 
@@ -31,8 +32,16 @@ module _ (c : tie.After-volume) where
   abbrev t : List ℕ
   t = textOf (s .args .depth) l
 
-  next : (r : Answer) (after : List ℕ) → c .volume .result .number ≡ 0 → Decided (keeping o) (TooShort (length t) o ∷ []) (Stands t o) (r, after) → TextOf (s .args .depth) l o r after
-  next r after z d = volume-next (s .args .depth) l (c .volume .result) (c .volume .ensures) (keeping o) (TooShort (length t) o ∷ []) (Stands t o) (r, after) z d
+  -- it stands at the front
+  abbrev Wrote : Answer × List ℕ → Type 0
+  Wrote x = x ≡ (given (length t), stands t o)
+
+returns : tie.Need-returns
+returns c =
+    let v = c .before in
+    volume-first (s v .args .depth) (l v) (v .volume .result) (v .volume .ensures) (keeping (o v)) (TooShort (length (t v)) (o v) ∷ []) (Wrote v) (c .if1 .taken)
+
+-- ---- a good list
 
 module _ (c : tie.Else1) where
   abbrev v : tie.After-volume
@@ -45,19 +54,20 @@ module _ (c : tie.Else1) where
   good = measured (s v .args .depth) (l v) (v .volume .result) (v .volume .ensures) none
 
   -- the text that is put is the listing
-  listed : {write : Bool} {b after : List ℕ} {r : ℕ} → Put write b 0 (listing (s v .args .depth) (l v) (v .volume .result .place)) after r → Put write b 0 (t v) after r
+  listed : {b after : List ℕ} {r : ℕ} → Put b 0 (listing (s v .args .depth) (l v) (v .volume .result .place)) after r → Put b 0 (t v) after r
   listed p = put-as (ap (listing (s v .args .depth) (l v)) (good .is-volume)) p
 
-returns : tie.Need-returns
-returns c =
-    let q = c .before in
-    volume-first (s q .args .depth) (l q) (q .volume .result) (q .volume .ensures) (keeping (o q)) (TooShort (length (t q)) (o q) ∷ []) (Stands (t q) (o q)) (c .if1 .taken)
+  told : {r : Answer} {after : List ℕ} → Standing (t v) (o v) (r, after) → TextOf (s v .args .depth) (l v) (o v) r after
+  told d = volume-next (s v .args .depth) (l v) (v .volume .result) (v .volume .ensures) (keeping (o v)) (TooShort (length (t v)) (o v) ∷ []) (Wrote v) _ none d
 
 returns-2 : tie.Need-returns-2
 returns-2 c =
     let p = c .before .before .before .before in
     let e = p .before .before in
-    next (v e) _ _ (none e) (too-short (t (v e)) (o (v e)) _ (p .put-listing .result) (listed e (p .put-listing .ensures)) (c .before .if2 .taken) _ (c .refusal .ensures))
+    told e (text-short (t (v e)) (o (v e)) _ (p .put-listing .result) (listed e (p .put-listing .ensures)) (c .before .if2 .taken) _ (c .refusal .ensures))
+
+slice-aggregate-put-listing-2 : tie.Need-slice-aggregate-put-listing-2
+slice-aggregate-put-listing-2 c = sym (length-take-le _ _ (c .before .if2 .left))
 
 put-listing-requires-2 : tie.Need-put-listing-requires-2
 put-listing-requires-2 c κs = let k = good (c .before .before .before .before .before .before) in (k .shallow, k .good .ordered, k .few)
@@ -68,8 +78,9 @@ returns-3 c =
     let y = q .before .before in
     let p = y .before .before .before in
     let e = p .before .before in
-    next (v e) _ _ (none e)
-    (stands (t (v e)) (o (v e)) _ (p .put-listing .result) (listed e (p .put-listing .ensures)) (y .if2 .left) _ (q .put-listing2 .result) (listed e (q .put-listing2 .ensures)) _ (c .success .ensures))
+    told e
+    (text-stands (t (v e)) (o (v e)) _ (p .put-listing .result) (listed e (p .put-listing .ensures)) (y .if2 .left) _ (q .put-listing2 .result) (listed e (q .put-listing2 .ensures)) _
+    (c .success .ensures))
 
 pub list-text-spec : {M : Type 1} → statement M
 list-text-spec =
@@ -77,10 +88,14 @@ list-text-spec =
     (tie.spec
     (λ c κs. search needs)
     returns
+    (λ c. search needs)
+    (λ c. search needs)
     (λ c κs. let k = good (c .before) in (k .shallow, k .good .ordered, k .few))
     (λ c κs. search needs)
     (λ c. search needs)
     returns-2
+    (λ c. search needs)
+    slice-aggregate-put-listing-2
     put-listing-requires-2
     (λ c κs. search needs)
     (λ c. search needs)

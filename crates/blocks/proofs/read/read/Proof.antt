@@ -5,12 +5,13 @@ use mathlib.Core.Logic.{inl, inr}
 use Prim.Native.Nat.{ℕ}
 use native.Mathlib.Omega.{arith}
 use borrow.Author.Needs.{needs}
-use lib.ListN.{length, drop}
+use lib.ListN.{drop}
 use Rattle.cells.specs.Answer.{answer, given, Decided}
 use Rattle.cells.specs.declared.Answer.{Answer}
 use Rattle.cells.proofs.Decisions.{passes}
+use Rattle.records.specs.Writing.{TooShort}
 use Rattle.blocks.specs.Block.{depthOf, leaves, codes}
-use Rattle.blocks.specs.Calls.{TooShort, unread, ReadOf}
+use Rattle.blocks.specs.Calls.{unread, ReadOf}
 use Rattle.blocks.specs.declared.Reading.{Reading}
 use Rattle.blocks.proofs.CallLaws.{Held, survey-first, survey-next, held, found}
 use Rattle.blocks.proofs.read.read.Statement.{statement}

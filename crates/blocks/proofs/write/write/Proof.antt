@@ -2,7 +2,7 @@
 use mathlib.Core.Path.{_≡_, refl, ap, ap₂, _∙_}
 use mathlib.Core.List.{List, [], _∷_, _++_}
 use mathlib.Core.Logic.{inl, inr}
-use Prim.Native.Nat.{ℕ, _*_, _^_, _≤_, _<_}
+use Prim.Native.Nat.{ℕ, _*_, _^_, _<_}
 use native.Mathlib.Omega.{arith}
 use borrow.Author.Needs.{needs}
 use lib.ListN.{length, drop}
@@ -11,8 +11,9 @@ use Rattle.cells.specs.declared.Answer.{Answer}
 use Rattle.cells.proofs.Decisions.{passes}
 use Rattle.cells.proofs.Words.{pow8-small}
 use Rattle.records.proofs.CallLaws.{Checked, check-first, check-next, checked}
+use Rattle.records.specs.Writing.{TooShort}
 use Rattle.blocks.specs.File.{blocksOf, fileOf}
-use Rattle.blocks.specs.Calls.{TooShort, WriteOf}
+use Rattle.blocks.specs.Calls.{WriteOf}
 use Rattle.blocks.proofs.write.write.Statement.{statement}
 use Rattle.blocks.proofs.write.write.Tie as tie
 

@@ -4,7 +4,6 @@ use mathlib.Core.Path.{refl, sym, subst, _∙_}
 use Prim.Native.Nat.{ℕ, _-_, _≤_, _<_}
 use native.Mathlib.Omega.{arith}
 use borrow.Author.Needs.{needs}
-use lib.ListN.{length}
 use Rattle.records.specs.Walk.{Walked, Stepped}
 use Rattle.records.proofs.Walks.{found-fault, found-none}
 use Rattle.blocks.specs.Block.{leaves, codes}

@@ -1,12 +1,10 @@
 -- `text::inner::parts::put_decimal` meets its contract. The recursion follows `digits`; the measure is n. Assumes nothing.
 use mathlib.Core.Path.{sym}
-use Prim.Native.Nat.{ℕ, _/_, _+_, _≤_, _<_}
+use Prim.Native.Nat.{ℕ, _/_, _+_, _<_}
 use native.Mathlib.Omega.{arith}
 use borrow.Author.Needs.{needs}
 use borrow.Fn.Kinds.{In}
 use borrow.Fn.PlainCycle.{Measures, is, falls, and}
-use lib.ListN.{length}
-use Rattle.text.specs.Text.{digits}
 use Rattle.text.proofs.Puts.{put-as}
 use Rattle.text.proofs.Digits.{digits-last, digits-length, put-digits}
 use Rattle.text.proofs.inner.parts.put_decimal.Reads as put-decimal
@@ -74,8 +72,7 @@ returns-2 t c =
     let q = c .before .before in
     let d = q .before .before .before .before in
     let e = d .before .before in
-    let a = e .before .before .args in
-    put-digits (a .write) (a .bytes .now) (a .at) (a .n) f (e .if1 .left) h _ _ (d .put-decimal .ensures) _ _ (q .put2 .ensures)
+    put-digits (e .before .before .args .n) f (e .if1 .left) h (d .put-decimal .ensures) (q .put2 .ensures)
 
 pub +put-decimal-spec : {M : Type 1} → statement M
 +put-decimal-spec =

@@ -1,11 +1,12 @@
 -- `text::inner::parts::put_labels` meets its contract. The recursion follows `labels`; the measure is the code. Assumes nothing.
+use mathlib.Core.Path.{sym}
 use Prim.Native.Nat.{ℕ, zero, suc, _/_, _+_, _^_, _≤_, _<_}
 use native.Mathlib.Omega.{arith}
 use borrow.Author.Needs.{needs}
 use borrow.Fn.Kinds.{In}
 use borrow.Fn.PlainCycle.{Measures, is, falls, and}
-use Rattle.text.specs.Inner.{Put, Labelled}
-use Rattle.text.proofs.Puts.{put-none}
+use Rattle.text.specs.Inner.{Labelled}
+use Rattle.text.proofs.Puts.{put-none, put-as}
 use Rattle.text.proofs.Digits.{labels-length, labelled-parent, labels-none, put-label}
 use Rattle.text.proofs.inner.parts.put_labels.Reads as put-labels
 use Rattle.text.proofs.inner.parts.put_labels.Kinds as put-labels-kinds
@@ -34,8 +35,7 @@ shorter c at h (suc k) i l room = (k, i / 8, labelled-parent c k i l, room)
 returns : (t : ℕ) → lts.Need-returns (calls t) (here t) put-labels.Post
 returns t c =
     λ k i l.
-    let a = c .before .before .args in
-    labels-none (a .write) (a .bytes .now) (a .at) (a .code) (c .if1 .taken) k i l (a .bytes .now) (a .at) (put-none (a .write) (a .bytes .now) (a .at))
+    put-as (sym (labels-none (c .before .before .args .code) (c .if1 .taken) k i l)) put-none
 
 put-labels-requires : (t : ℕ) → lts.Need-put-labels-requires (calls t) (here t) put-labels.Post
 put-labels-requires t c κs =
@@ -68,8 +68,7 @@ returns-2 t c =
     let q = c .before .before in
     let d = q .before .before .before .before in
     let e = d .before .before in
-    let a = e .before .before .args in
-    put-label (a .write) (a .bytes .now) (a .at) (a .code) (e .if1 .left) k i l _ _ (d .put-labels .ensures) _ _ (q .put .ensures)
+    put-label (e .before .before .args .code) (e .if1 .left) k i l (d .put-labels .ensures) (q .put .ensures)
 
 pub +put-labels-spec : {M : Type 1} → statement M
 +put-labels-spec =

@@ -1,7 +1,7 @@
 -- `text::inner::parts::put_word` meets its contract. The loop's invariant: the first i bytes of the word are put. Assumes nothing.
-use mathlib.Core.Path.{_≡_, refl, sym, ap, _∙_}
-use mathlib.Core.List.{List, [], _∷_, _++_}
-use Prim.Native.Nat.{ℕ, suc, _+_, _-_, _≤_, _<_}
+use mathlib.Core.Path.{_≡_, sym, ap, _∙_}
+use mathlib.Core.List.{[], _∷_, _++_}
+use Prim.Native.Nat.{ℕ, _+_, _-_, _≤_}
 use native.Mathlib.Numerals.{add-one}
 use native.Mathlib.Omega.{arith}
 use borrow.Author.Needs.{needs}
@@ -13,10 +13,10 @@ use Rattle.text.proofs.inner.parts.put_word.Statement.{statement}
 use Rattle.text.proofs.inner.parts.put_word.Tie as tie
 
 abbrev Inv-loop : tie.InvT-loop
-Inv-loop word bytes₀ at write place₀ i₀ bytes place i = (i ≤ length word) × Put write bytes₀ at (take i word) bytes place
+Inv-loop word bytes₀ at place₀ i₀ bytes place i = (i ≤ length word) × Put bytes₀ at (take i word) bytes place
 
 abbrev μ-loop : tie.MeasureT-loop
-μ-loop word bytes₀ at write place₀ i₀ bytes place i = length word - i
+μ-loop word bytes₀ at place₀ i₀ bytes place i = length word - i
 
 -- ---- the loop's head
 
@@ -40,11 +40,8 @@ loop-again c =
     let l = h .loop in
     let e : take (l .i) (a .word .now) ++ (getD (a .word .now) (l .i) 0 ∷ []) ≡ take (l .i + 1) (a .word .now) = sym (take-suc (a .word .now) (l .i) 0 (i .loop-test .taken)) ∙ ap (λ (n : ℕ). take n (a .word .now)) (sym (add-one (l .i))) in (
       omega (arith, i .loop-test .taken),
-      put-as e (put-append (a .write) (a .bytes .now) (a .at) (take (l .i) (a .word .now)) (l .bytes) (l .place) (l .inv .1) (getD (a .word .now) (l .i) 0 ∷ []) _ _ (p .put .ensures)),
+      put-as e (put-append (l .inv .1) (p .put .ensures)),
     )
-
-same-length : tie.Need-same-length Inv-loop μ-loop
-same-length c = let h = c .before in let a = s h .args in put-length (a .write) (a .bytes .now) (a .at) (take (h .loop .i) (a .word .now)) (h .loop .bytes) (h .loop .place) (h .loop .inv .1)
 
 returns : tie.Need-returns Inv-loop μ-loop
 returns c =
@@ -58,11 +55,11 @@ put-word-spec =
     (tie.spec
     Inv-loop
     μ-loop
-    (λ c. (search needs, put-none _ _ _))
+    (λ c. (search needs, put-none))
     (λ c. search needs)
     put-requires
     (λ c. search needs)
     (λ c. search needs)
     loop-again
-    same-length
+    (λ c. put-length (c .before .loop .inv .1))
     returns)
