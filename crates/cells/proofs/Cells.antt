@@ -8,7 +8,7 @@ use native.Mathlib.Omega.{arith}
 use lib.Dec.{leb, ltb}
 use lib.Pow.{pow-add}
 use borrow.Author.Tests.{leb-true, ltb-true, le-leb, lt-ltb, lt-leb}
-use Rattle.cells.specs.Cell.{topBit, level, proper, index, start, span}
+use Rattle.cells.specs.Cell.{topBit, level, proper, index, start, span, end}
 use Rattle.cells.proofs.Bools.{both-true}
 use Rattle.cells.proofs.Power.{le-or-lt, pow2-suc, pow8-bits, pow8-pos, pow8-suc, pow8-lt-inv, pow8-le-inv, pow8-inj, pow8-split}
 
@@ -122,7 +122,7 @@ start-multiple D c e = let t = cell D c e in (t .i, t .start≡ ∙ ap (λ (x : 
 pow8-depth : {D : ℕ} (k n : ℕ) → k + n ≡ D → 8 ^ D ≡ 8 ^ k * 8 ^ n
 pow8-depth k n e = ap (λ (x : ℕ). 8 ^ x) (sym e) ∙ pow-add 8 k n
 
-pub within : (D c : ℕ) → proper D c ≡ true → start D c + span D c ≤ 8 ^ D
+pub within : (D c : ℕ) → proper D c ≡ true → end D c ≤ 8 ^ D
 within D c e =
     let t = cell D c e in
     omega (arith, t .start≡, t .span≡, pow8-depth (t .k) (t .n) (t .depth), mul-le-mul-right (8 ^ t .n) (t .index))
@@ -198,11 +198,11 @@ parent D p j h pos e = go (level D (8 * p + j)) (level-le D (8 * p + j)) (proper
 
 -- the voxels of c are voxels of d
 abbrev pub Inside : ℕ → ℕ → ℕ → Type 0
-Inside D c d = (start D d ≤ start D c) × (start D c + span D c ≤ start D d + span D d)
+Inside D c d = (start D d ≤ start D c) × (end D c ≤ end D d)
 
 -- one ends before the other begins
 abbrev pub Apart : ℕ → ℕ → ℕ → Type 0
-Apart D c d = (start D c + span D c ≤ start D d) ⊎ (start D d + span D d ≤ start D c)
+Apart D c d = (end D c ≤ start D d) ⊎ (end D d ≤ start D c)
 
 -- the a-th interval of length u, at s, and the b-th of length v, at t, where v is w times u
 nested-intervals : (a b w u v s t : ℕ) → v ≡ w * u → s ≡ a * u → t ≡ b * v → ((s + u ≤ t) ⊎ (t + v ≤ s)) ⊎ ((t ≤ s) × (s + u ≤ t + v))

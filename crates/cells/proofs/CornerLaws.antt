@@ -1,6 +1,6 @@
 -- Corners of cells: a cell is known by its level and its corner, and its corner is where its first voxel stands. Assumes nothing.
 use mathlib.Core.Path.{_≡_, refl, sym, ap, _∙_}
-use mathlib.Core.Bool.{true, _&&_}
+use mathlib.Core.Bool.{Bool, true}
 use mathlib.Core.List.{[], _∷_}
 use Prim.Native.Nat.{ℕ, _+_, _-_, _*_, _/_, _%_, _^_, _<_, _≤_}
 use native.Mathlib.Nat.{one-le-pow, eq-of-mul-eq-mul-right, add-sub-cancel-left, div-add-mod', div-lt-iff-lt-mul, add-sub-of-le}
@@ -9,15 +9,14 @@ use lib.Dec.{leb, ltb, eqb}
 use borrow.Author.Tests.{leb-true, ltb-true, eqb-true}
 use native.Mathlib.Omega.{arith}
 use Rattle.cells.specs.Cell.{level, proper, index, side, start, span}
-use Rattle.cells.specs.Place.{along, number, corner}
-use Rattle.cells.specs.Answer.{given, alone, TooDeep}
+use Rattle.cells.specs.Place.{axes, EachAxis, allAxes, along, number, corner}
+use Rattle.cells.specs.Answer.{given, alone, deepest, TooDeep}
 use Rattle.cells.specs.Corners.{NoCell, nowhere, CellAt, onGrid, isCorner, NoCorner, PlaceOf, CodeOf}
-use Rattle.cells.specs.declared.Answer.{Answer}
-use Rattle.cells.proofs.Decisions.{One, one-refuses, one-decided}
+use Rattle.cells.proofs.Decisions.{One, one-equal, one-given, one-refuses, one-decided}
 use Rattle.cells.proofs.Power.{pow2-pos}
 use Rattle.cells.proofs.Cells.{proper-bounds, cell-of, level-le}
 use Rattle.cells.proofs.Bools.{both-true}
-use Rattle.cells.proofs.Places.{pick, number-along, number-lt, along-number, along-first, along-last}
+use Rattle.cells.proofs.Places.{each-axis, each-true, same-voxel, number-lt, along-number, along-first, along-last}
 
 pub side-pos : (D c : ℕ) → 0 < side D c
 unfolding side
@@ -59,13 +58,11 @@ same-along b D c d l e =
     let e′ : along b (level D c) (index D c) * 2 ^ (D - level D c) ≡ along b (level D c) (index D d) * 2 ^ (D - level D c) = e ∙ rw (← l) refl in
     eq-of-mul-eq-mul-right (2 ^ (D - level D c)) (one-le-pow (D - level D c) 2 (omega arith)) _ _ e′
 
-pub one-cell : (D c d : ℕ) → proper D c ≡ true → proper D d ≡ true → level D c ≡ level D d → corner 1 D c ≡ corner 1 D d → corner 2 D c ≡ corner 2 D d → corner 4 D c ≡ corner 4 D d → c ≡ d
-one-cell D c d p q l x y z =
-    let k : ℕ = level D c in
-    let ld : 8 ^ level D d ≡ 8 ^ k = ap (λ (n : ℕ). 8 ^ n) (sym l) in
-    let i = number-along k (index D c) (index-lt D c p) in
-    let j = number-along k (index D d) (omega (arith, index-lt D d q)) in
-    let same : index D c ≡ index D d = sym i ∙ rw (same-along 1 D c d l x, same-along 2 D c d l y, same-along 4 D c d l z) j in
+pub one-cell : (D c d : ℕ) → proper D c ≡ true → proper D d ≡ true → level D c ≡ level D d → EachAxis (λ a. corner (2 ^ a) D c ≡ corner (2 ^ a) D d) → c ≡ d
+one-cell D c d p q l e =
+    let ld : 8 ^ level D d ≡ 8 ^ level D c = ap (λ (n : ℕ). 8 ^ n) (sym l) in
+    let same : index D c ≡ index D d =
+    same-voxel (level D c) (index D c) (index D d) (index-lt D c p) (omega (arith, index-lt D d q)) (λ a h. same-along (2 ^ a) D c d l (e a h)) in
     omega (arith, code-is D c p, code-is D d q)
 
 -- ---- the corner is where the first voxel stands
@@ -97,20 +94,16 @@ on-grid w s x e =
     let t = both-true (ltb x w) (eqb (x % s) 0) e in
     record { root = ltb-true x w (t .0); multiple = eqb-true (x % s) 0 (t .1) }
 
-pub record IsCorner (D x y z k : ℕ) : Type 0 where
+pub record IsCorner (D : ℕ) (x : ℕ → ℕ) (k : ℕ) : Type 0 where
   pub deep : k ≤ D
-  pub on-x : OnGrid (2 ^ D) (2 ^ (D - k)) x
-  pub on-y : OnGrid (2 ^ D) (2 ^ (D - k)) y
-  pub on-z : OnGrid (2 ^ D) (2 ^ (D - k)) z
+  pub each : EachAxis (λ a. OnGrid (2 ^ D) (2 ^ (D - k)) (x a))
 
-pub is-corner : (D x y z k : ℕ) → isCorner D x y z k ≡ true → IsCorner D x y z k
+pub is-corner : (D : ℕ) (x : ℕ → ℕ) (k : ℕ) → isCorner D x k ≡ true → IsCorner D x k
 unfolding isCorner
-is-corner D x y z k e =
-    let g = onGrid (2 ^ D) (2 ^ (D - k)) in
-    let t = both-true (leb k D) (g x && (g y && g z)) e in
-    let u = both-true (g x) (g y && g z) (t .1) in
-    let v = both-true (g y) (g z) (u .1) in
-    record { deep = leb-true k D (t .0); on-x = on-grid _ _ x (u .0); on-y = on-grid _ _ y (v .0); on-z = on-grid _ _ z (v .1) }
+is-corner D x k e =
+    let g : ℕ → Bool = λ a. onGrid (2 ^ D) (2 ^ (D - k)) (x a) in
+    let t = both-true (leb k D) (allAxes g) e in
+    record { deep = leb-true k D (t .0); each = λ a h. on-grid _ _ (x a) (each-true g (t .1) a h) }
 
 -- a coordinate in sides
 module _ (D k x : ℕ) (h : k ≤ D) (g : OnGrid (2 ^ D) (2 ^ (D - k)) x) where
@@ -123,36 +116,32 @@ module _ (D k x : ℕ) (h : k ≤ D) (g : OnGrid (2 ^ D) (2 ^ (D - k)) x) where
   from-sides : x / 2 ^ (D - k) * 2 ^ (D - k) ≡ x
   from-sides = omega (arith, div-add-mod' x (2 ^ (D - k)), g .multiple)
 
-pub cell-of-corner : (D x y z k : ℕ) → isCorner D x y z k ≡ true → CellAt D x y z k (8 ^ k + number k (x / 2 ^ (D - k)) (y / 2 ^ (D - k)) (z / 2 ^ (D - k)))
+pub cell-of-corner : (D x y z k : ℕ) → isCorner D (axes x y z) k ≡ true
+    → CellAt D (axes x y z) k (8 ^ k + number k (x / 2 ^ (D - k)) (y / 2 ^ (D - k)) (z / 2 ^ (D - k)))
 cell-of-corner D x y z k e =
-    let g = is-corner D x y z k e in
+    let g = is-corner D (axes x y z) k e in
     let s : ℕ = 2 ^ (D - k) in
-    let X : ℕ = x / s in
-    let Y : ℕ = y / s in
-    let Z : ℕ = z / s in
-    let t = cell-at D k (number k X Y Z) (g .deep) (number-lt k X Y Z) in
-    let at : (a : ℕ) → a < 3 → along (2 ^ a) k (number k X Y Z) ≡ pick a X Y Z =
-    λ a h. along-number a k X Y Z h (in-sides D k x (g .deep) (g .on-x)) (in-sides D k y (g .deep) (g .on-y)) (in-sides D k z (g .deep) (g .on-z)) in
+    let m : ℕ = number k (x / s) (y / s) (z / s) in
+    let small : EachAxis (λ a. axes x y z a / s < 2 ^ k) = λ a h. in-sides D k (axes x y z a) (g .deep) (g .each a h) in
+    let halved : EachAxis (λ a. axes (x / s) (y / s) (z / s) a ≡ axes x y z a / s) = each-axis _ refl refl refl in
+    let t = cell-at D k m (g .deep) (number-lt k (x / s) (y / s) (z / s)) in
     record {
       is-proper = t .is-proper;
       is-level = t .is-level;
-      is-x = t .is-corner 1 ∙ ap (λ (n : ℕ). n * s) (at 0 (omega arith)) ∙ from-sides D k x (g .deep) (g .on-x);
-      is-y = t .is-corner 2 ∙ ap (λ (n : ℕ). n * s) (at 1 (omega arith)) ∙ from-sides D k y (g .deep) (g .on-y);
-      is-z = t .is-corner 4 ∙ ap (λ (n : ℕ). n * s) (at 2 (omega arith)) ∙ from-sides D k z (g .deep) (g .on-z);
+      each = λ a h.
+          t .is-corner (2 ^ a)
+          ∙ ap (λ (n : ℕ). n * s) (along-number a k (x / s) (y / s) (z / s) h (small 0 (omega arith)) (small 1 (omega arith)) (small 2 (omega arith)) ∙ halved a h)
+          ∙ from-sides D k (axes x y z a) (g .deep) (g .each a h);
     }
 
 -- ---- no second answer
 
 pub one-place : (D c : ℕ) → One (PlaceOf D c)
-one-place D c = one-decided nowhere (TooDeep D ∷ NoCell D c ∷ []) _ (one-refuses, (one-refuses, tt)) (λ r s a b. a ∙ sym b)
+one-place D c = one-decided nowhere (TooDeep deepest D ∷ NoCell D c ∷ []) _ (one-refuses, (one-refuses, tt)) one-equal
 
-module _ (D x y z k : ℕ) where
-  pub one-cell-at : (m n : ℕ) → CellAt D x y z k m → CellAt D x y z k n → m ≡ n
-  one-cell-at m n p q =
-      one-cell D m n (p .is-proper) (q .is-proper) (p .is-level ∙ sym (q .is-level)) (p .is-x ∙ sym (q .is-x)) (p .is-y ∙ sym (q .is-y)) (p .is-z ∙ sym (q .is-z))
+module _ (D : ℕ) (x : ℕ → ℕ) (k : ℕ) where
+  pub one-cell-at : One (CellAt D x k)
+  one-cell-at m n p q = one-cell D m n (p .is-proper) (q .is-proper) (p .is-level ∙ sym (q .is-level)) (λ a h. p .each a h ∙ sym (q .each a h))
 
-  coded-one : One (λ (r : Answer). (m : ℕ) × CellAt D x y z k m × (r ≡ given m))
-  coded-one r s (m, p, a) (n, q, b) = a ∙ ap given (one-cell-at m n p q) ∙ sym b
-
-  pub one-code : One (CodeOf D x y z k)
-  one-code = one-decided alone (TooDeep D ∷ NoCorner D x y z k ∷ []) _ (one-refuses, (one-refuses, tt)) coded-one
+  pub one-code : One (CodeOf D x k)
+  one-code = one-decided alone (TooDeep deepest D ∷ NoCorner D x k ∷ []) _ (one-refuses, (one-refuses, tt)) (one-given one-cell-at)

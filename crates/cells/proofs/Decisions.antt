@@ -1,11 +1,12 @@
 -- How a row of tests decides, and how it is met: where each test refuses with one answer at most and one thing at most holds past them, no second answer fits. Assumes nothing.
 use mathlib.Core.Path.{_≡_, sym, ap, _∙_, subst⁻¹}
-use mathlib.Core.Logic.{inl, inr}
+use mathlib.Core.Logic.{_⊎_, inl, inr}
 use mathlib.Core.List.{List, [], _∷_, _++_}
 use Prim.Native.Nat.{ℕ, _≤_, _<_}
 use native.Mathlib.Omega.{arith}
-use Rattle.cells.specs.Answer.{Test, Decided, alone, refuses, deepest}
+use Rattle.cells.specs.Answer.{given, Test, Decided, alone, refuses, First, refusesFirst}
 use Rattle.cells.specs.declared.Answer.{Answer}
+use Rattle.cells.proofs.Power.{le-or-lt}
 
 -- at most one thing has P
 abbrev pub One : {R : Type 0} → (R → Type 0) → Type 0
@@ -16,8 +17,28 @@ abbrev pub Ones : List Test → Type 0
 Ones [] = Unit {0}
 Ones (F ∷ Fs) = One F × Ones Fs
 
+-- only one thing equals a
+pub one-equal : {R : Type 0} {a : R} → One (λ (r : R). r ≡ a)
+one-equal r s e f = e ∙ sym f
+
+-- and only one success tells a number that has P, where one number has
+pub one-given : {P : ℕ → Type 0} → One P → One (λ (r : Answer). (m : ℕ) × P m × (r ≡ given m))
+one-given one r s (m, p, e) (n, q, f) = e ∙ ap given (one m n p q) ∙ sym f
+
 pub one-refuses : {q : Answer} {C : Type 0} → One (refuses q C)
 one-refuses a b (_, e) (_, f) = e ∙ sym f
+
+-- a first number is one alone
+pub one-first : {n : ℕ} {P : ℕ → Type 0} → One (First n P)
+one-first i j p q = go (le-or-lt i j) (le-or-lt j i)
+  where
+    go : (i ≤ j) ⊎ (j < i) → (j ≤ i) ⊎ (i < j) → i ≡ j
+    go (inl h) (inl k) = omega arith
+    go (inr h) k = absurd (p .before j h (q .here))
+    go (inl h) (inr k) = absurd (q .before i k (p .here))
+
+pub one-refuses-first : {n : ℕ} {P : ℕ → Type 0} {q : ℕ → Answer} → One (refusesFirst n P q)
+one-refuses-first {n} {P} {q} a b (i, x, e) (j, y, f) = e ∙ ap q (one-first i j x y) ∙ sym f
 
 pub one-decided : {R : Type 0} (refuse : Answer → R) (Fs : List Test) (P : R → Type 0) → Ones Fs → One P → One (Decided refuse Fs P)
 one-decided refuse [] P of-none one r s p q = one r s p q
@@ -31,7 +52,7 @@ one-decided refuse (F ∷ Fs) P (of-f, of-fs) one r s (inr (_, p)) (inr (_, q)) 
 pub passes : {q : Answer} {C : Type 0} → (C → ⊥) → (a : Answer) → refuses q C a → ⊥
 passes n a t = n (t .0)
 
-pub deep-enough : {D : ℕ} → D ≤ deepest → deepest < D → ⊥
+pub deep-enough : {limit D : ℕ} → D ≤ limit → limit < D → ⊥
 deep-enough h g = omega arith
 
 -- ---- from one row's outcome to another's

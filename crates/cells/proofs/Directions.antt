@@ -1,12 +1,15 @@
 -- Steps and directions as numbers. Assumes nothing.
-use mathlib.Core.Path.{_≡_, refl, sym, _∙_}
+use mathlib.Core.Path.{_≡_, refl}
 use mathlib.Core.Bool.{Bool, true, false, _&&_, not}
 use Prim.Native.Nat.{ℕ, zero, suc, _+_, _*_, _<_, _≤_}
 use native.Mathlib.Omega.{arith}
 use lib.IntN.{ℤ, pos, negsuc}
 use Rattle.cells.specs.Neighbour.{isStep, isNone, isDirection}
 use Rattle.cells.specs.Inner.{digitOf, Direction}
+use Rattle.cells.specs.Place.{EachAxis, allAxes}
+use Rattle.cells.proofs.Bools.{both-true, refuted, clash}
 use Rattle.cells.proofs.Integers.{above, below}
+use Rattle.cells.proofs.Places.{each-axis, each-true, all-true}
 use Rattle.cells.proofs.Rules.{forth}
 
 -- ---- a step and its digit
@@ -52,63 +55,46 @@ forth-step (pos (suc (suc n))) h = absurd (omega arith)
 forth-step (negsuc zero) h = refl
 forth-step (negsuc (suc n)) h = absurd (omega arith)
 
--- ---- three steps
+-- ---- a direction
 
-module _ (dx dy dz : ℤ) where
-  -- no direction
-  without : isDirection dx dy dz ≡ false → Direction dx dy dz 0
-  without e = record {
-    bad = λ _. e;
+module _ (d : ℕ → ℤ) where
+  -- a step that is none: no direction
+  pub bad-step : (a : ℕ) → a < 3 → 2 < digitOf (d a) → Direction d 0
+  unfolding isDirection
+  bad-step a h b = record {
+    bad = λ _. refuted (isDirection d) (λ e. clash (each-true (λ a. isStep (d a)) (both-true (allAxes (λ a. isStep (d a))) _ e .0) a h) (digit-bad (d a) b));
     good = λ h. absurd (h refl);
     small = omega arith;
-    digit-x = λ h. absurd (h refl);
-    digit-y = λ h. absurd (h refl);
-    digit-z = λ h. absurd (h refl);
+    digits = λ h. absurd (h refl);
   }
-
-  pub bad-x : 2 < digitOf dx → Direction dx dy dz 0
-  unfolding isDirection
-  bad-x h = without (rw (digit-bad dx h))
-
-  pub bad-y : digitOf dx ≤ 2 → 2 < digitOf dy → Direction dx dy dz 0
-  unfolding isDirection
-  bad-y hx h = without (rw (digit-step dx hx, digit-bad dy h))
-
-  pub bad-z : digitOf dx ≤ 2 → digitOf dy ≤ 2 → 2 < digitOf dz → Direction dx dy dz 0
-  unfolding isDirection
-  bad-z hx hy h = without (rw (digit-step dx hx, digit-step dy hy, digit-bad dz h))
-
-  three : digitOf dx ≤ 2 → digitOf dy ≤ 2 → digitOf dz ≤ 2 → isDirection dx dy dz ≡ not (isNone dx && (isNone dy && isNone dz))
-  unfolding isDirection
-  three hx hy hz = rw (digit-step dx hx, digit-step dy hy, digit-step dz hz)
-
-  none-none : (a b c : Bool) → not (a && (b && c)) ≡ false → (a ≡ true) × (b ≡ true) × (c ≡ true)
-  none-none true true true e = (refl, refl, refl)
-  none-none true true false e = (refl, refl, sym e)
-  none-none true false c e = (refl, sym e, absurd (let z : _≡_ {A = ℕ} 0 1 = cc in omega arith))
-  none-none false b c e = (sym e, absurd (let z : _≡_ {A = ℕ} 0 1 = cc in omega arith), absurd (let z : _≡_ {A = ℕ} 0 1 = cc in omega arith))
-
-  all-none : digitOf dx ≡ 0 → digitOf dy ≡ 0 → digitOf dz ≡ 0 → isDirection dx dy dz ≡ false
-  all-none hx hy hz =
-      three (omega arith) (omega arith) (omega arith)
-      ∙ rw (digit-none dx hx, digit-none dy hy, digit-none dz hz)
-
-  some-step : digitOf dx ≤ 2 → digitOf dy ≤ 2 → digitOf dz ≤ 2 → (digitOf dx + 3 * digitOf dy + 9 * digitOf dz ≡ 0 → ⊥) → isDirection dx dy dz ≡ true
-  some-step hx hy hz h = three hx hy hz ∙ go (not (isNone dx && (isNone dy && isNone dz))) refl
-    where
-      go : (t : Bool) → not (isNone dx && (isNone dy && isNone dz)) ≡ t → t ≡ true
-      go true e = refl
-      go false e =
-          let n = none-none (isNone dx) (isNone dy) (isNone dz) e in
-          absurd (h (omega (arith, none-digit dx (n .0), none-digit dy (n .1), none-digit dz (n .2))))
 
   -- three steps, and their number
-  pub numbered : digitOf dx ≤ 2 → digitOf dy ≤ 2 → digitOf dz ≤ 2 → Direction dx dy dz (digitOf dx + 3 * digitOf dy + 9 * digitOf dz)
-  numbered hx hy hz = record {
-    bad = λ e. all-none (omega arith) (omega arith) (omega arith);
-    good = some-step hx hy hz;
-    small = omega arith;
-    digit-x = λ _. omega arith;
-    digit-y = λ _. omega arith;
-    digit-z = λ _. omega arith;
+  abbrev pub numberOf : ℕ
+  numberOf = digitOf (d 0) + 3 * digitOf (d 1) + 9 * digitOf (d 2)
+
+  pub numbered : EachAxis (λ a. digitOf (d a) ≤ 2) → Direction d numberOf
+  unfolding isDirection
+  numbered h = record {
+    bad = λ e. rw (steps, all-true (λ a. isNone (d a)) (each-axis _ (digit-none (d 0) (omega arith)) (digit-none (d 1) (omega arith)) (digit-none (d 2) (omega arith))));
+    good = λ n. steps-and-not (allAxes (λ a. isNone (d a))) refl n;
+    small = omega (arith, x, y, z);
+    digits = λ _. each-axis _ (omega (arith, x)) (omega (arith, x, y)) (omega (arith, x, y, z));
   }
+    where
+      x : digitOf (d 0) ≤ 2
+      x = h 0 (omega arith)
+
+      y : digitOf (d 1) ≤ 2
+      y = h 1 (omega arith)
+
+      z : digitOf (d 2) ≤ 2
+      z = h 2 (omega arith)
+
+      steps : allAxes (λ a. isStep (d a)) ≡ true
+      steps = all-true (λ a. isStep (d a)) (λ a l. digit-step (d a) (h a l))
+
+      steps-and-not : (t : Bool) → allAxes (λ a. isNone (d a)) ≡ t → (numberOf ≡ 0 → ⊥) → (allAxes (λ a. isStep (d a)) && not t) ≡ true
+      steps-and-not false e n = rw steps
+      steps-and-not true e n =
+          let none = each-true (λ a. isNone (d a)) e in
+          absurd (n (omega (arith, none-digit (d 0) (none 0 (omega arith)), none-digit (d 1) (none 1 (omega arith)), none-digit (d 2) (none 2 (omega arith)))))

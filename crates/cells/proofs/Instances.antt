@@ -6,7 +6,7 @@ use Prim.Native.Nat.{ℕ}
 use native.Mathlib.Omega.{arith}
 use lib.IntN.{pos, negsuc}
 use Rattle.cells.specs.Cell.{topBit, level, proper, index, side}
-use Rattle.cells.specs.Place.{along, corner}
+use Rattle.cells.specs.Place.{axes, along, corner}
 use Rattle.cells.specs.Answer.{answer, given}
 use Rattle.cells.specs.Corners.{onGrid, isCorner, PlaceOf, CodeOf}
 use Rattle.cells.specs.Neighbour.{isStep, isNone, isDirection, Neighbour, NeighbourOf}
@@ -18,6 +18,7 @@ use Rattle.cells.proofs.Bools.{clash}
 use Rattle.cells.proofs.Decisions.{passes}
 use Rattle.cells.proofs.CornerLaws.{one-place, one-code}
 use Rattle.cells.proofs.Directions.{numbered}
+use Rattle.cells.proofs.Places.{each-axis}
 use Rattle.cells.proofs.NeighbourLaws.{one-neighbour-of, missing}
 
 -- r057 at depth 3 stands at 3, 1, 3
@@ -28,28 +29,28 @@ place-holds = inr (passes (λ h. omega arith), inr (passes (clash refl), refl))
 pub place-fails : PlaceOf 3 559 (record { answer = given 0; x = 1; y = 3; z = 3; level = 3 }) → ⊥
 place-fails h = let e : _≡_ {A = ℕ} 1 3 = ap (λ (r : Corner). r .x) (one-place 3 559 _ _ h place-holds) in omega arith
 
-pub code-holds : CodeOf 3 3 1 3 3 (given 559)
+pub code-holds : CodeOf 3 (axes 3 1 3) 3 (given 559)
 unfolding topBit level proper along index side corner onGrid isCorner
-code-holds = inr (passes (λ h. omega arith), inr (passes (clash refl), (559, record { is-proper = refl; is-level = refl; is-x = refl; is-y = refl; is-z = refl }, refl)))
+code-holds = inr (passes (λ h. omega arith), inr (passes (clash refl), (559, record { is-proper = refl; is-level = refl; each = each-axis _ refl refl refl }, refl)))
 
-pub code-fails : CodeOf 3 3 1 3 3 (answer 6 0 0) → ⊥
-code-fails h = let e : _≡_ {A = ℕ} 6 0 = ap (λ (r : Answer). r .number) (one-code 3 3 1 3 3 _ _ h code-holds) in omega arith
+pub code-fails : CodeOf 3 (axes 3 1 3) 3 (answer 6 0 0) → ⊥
+code-fails h = let e : _≡_ {A = ℕ} 6 0 = ap (λ (r : Answer). r .number) (one-code 3 (axes 3 1 3) 3 _ _ h code-holds) in omega arith
 
 -- r742 with steps (-1, +1, +1), FNW, gives r675: 001's own example
-pub neighbour-holds : NeighbourOf 3 994 (negsuc 0) (pos 1) (pos 1) (given 957)
+pub neighbour-holds : NeighbourOf 3 994 (axes (negsuc 0) (pos 1) (pos 1)) (given 957)
 unfolding topBit level proper isStep isNone isDirection along index side corner
 neighbour-holds =
-    let n : Neighbour 3 994 (negsuc 0) (pos 1) (pos 1) 957 = record { is-proper = refl; same-level = refl; x = refl; y = refl; z = refl } in
+    let n : Neighbour 3 994 (axes (negsuc 0) (pos 1) (pos 1)) 957 = record { is-proper = refl; same-level = refl; each = each-axis _ refl refl refl } in
     inr (passes (λ h. omega arith), inr (passes (clash refl), inr (passes (clash refl), inr (passes (λ none. none 957 n), (957, n, refl)))))
 
 -- r0 with x - 1 is outside the root
-pub neighbour-refuses : NeighbourOf 1 8 (negsuc 0) (pos 0) (pos 0) (answer 7 0 0)
+pub neighbour-refuses : NeighbourOf 1 8 (axes (negsuc 0) (pos 0) (pos 0)) (answer 7 0 0)
 unfolding topBit level proper isStep isNone isDirection digitOf index under rule carried
 neighbour-refuses =
     inr (passes (λ h. omega arith), inr (passes (clash refl), inr (passes (clash refl), inl (_, (none, refl), refl))))
   where
-    none : (m : ℕ) → Neighbour 1 8 (negsuc 0) (pos 0) (pos 0) m → ⊥
-    none = missing 1 8 refl (negsuc 0) (pos 0) (pos 0) 2 (numbered (negsuc 0) (pos 0) (pos 0) (omega arith) (omega arith) (omega arith)) (λ e. omega arith) (λ e. omega arith)
+    none : (m : ℕ) → Neighbour 1 8 (axes (negsuc 0) (pos 0) (pos 0)) m → ⊥
+    none = missing 1 8 refl (axes (negsuc 0) (pos 0) (pos 0)) 2 (numbered (axes (negsuc 0) (pos 0) (pos 0)) (each-axis _ (omega arith) (omega arith) (omega arith))) (λ e. omega arith) (λ e. omega arith)
 
-pub neighbour-fails : NeighbourOf 1 8 (negsuc 0) (pos 0) (pos 0) (given 9) → ⊥
-neighbour-fails h = let e : _≡_ {A = ℕ} 0 7 = ap (λ (r : Answer). r .number) (one-neighbour-of 1 8 (negsuc 0) (pos 0) (pos 0) _ _ h neighbour-refuses) in omega arith
+pub neighbour-fails : NeighbourOf 1 8 (axes (negsuc 0) (pos 0) (pos 0)) (given 9) → ⊥
+neighbour-fails h = let e : _≡_ {A = ℕ} 0 7 = ap (λ (r : Answer). r .number) (one-neighbour-of 1 8 (axes (negsuc 0) (pos 0) (pos 0)) _ _ h neighbour-refuses) in omega arith

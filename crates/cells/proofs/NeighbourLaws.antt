@@ -7,19 +7,18 @@ use native.Mathlib.Nat.{add-mul, eq-of-mul-eq-mul-right, one-mul, zero-div, mod-
 use native.Mathlib.Omega.{arith}
 use lib.IntN.{ℤ, pos, _+ℤ_, _*ℤ_}
 use Rattle.cells.specs.Cell.{level, proper, index, side}
-use Rattle.cells.specs.Place.{along, corner, Displaced}
-use Rattle.cells.specs.Answer.{given, alone, TooDeep}
+use Rattle.cells.specs.Place.{EachAxis, along, corner, Displaced}
+use Rattle.cells.specs.Answer.{alone, deepest, TooDeep}
 use Rattle.cells.specs.Corners.{NoCell}
 use Rattle.cells.specs.Neighbour.{NoDirection, Neighbour, Outside, NeighbourOf}
 use Rattle.cells.specs.Inner.{digitOf, Direction}
 use Rattle.cells.specs.Payeur.{stepped, carried}
-use Rattle.cells.specs.declared.Answer.{Answer}
-use Rattle.cells.proofs.Decisions.{One, one-refuses, one-decided}
+use Rattle.cells.proofs.Decisions.{One, one-given, one-refuses, one-decided}
 use Rattle.cells.proofs.Cells.{level-le}
 use Rattle.cells.proofs.CornerLaws.{side-pos, cell-at, one-cell}
 use Rattle.cells.proofs.Directions.{forth-step}
 use Rattle.cells.proofs.Integers.{above, below, same, add-is, above-times, below-times}
-use Rattle.cells.proofs.Places.{along-lt, pick}
+use Rattle.cells.proofs.Places.{along-lt}
 use Rattle.cells.proofs.Rules.{forth}
 use Rattle.cells.proofs.Steps.{steps, stepped-lt, carried-lt}
 
@@ -63,7 +62,7 @@ module _ (a : ℕ) (axis : a < 3) (k i d : ℕ) (small : d < 27) (z : ℤ) (digi
       go (suc (suc (suc g))) l n s = omega arith
 
 -- a direction with no digit is none
-no-digits : (n : ℕ) → n < 27 → ((a : ℕ) → a < 3 → n / 3 ^ a % 3 ≡ 0) → n ≡ 0
+no-digits : (n : ℕ) → n < 27 → EachAxis (λ a. n / 3 ^ a % 3 ≡ 0) → n ≡ 0
 no-digits n h none =
     let x : n / 1 % 3 ≡ 0 = none 0 (omega arith) in
     let y : n / 3 % 3 ≡ 0 = none 1 (omega arith) in
@@ -79,75 +78,50 @@ pub corner-beside : (b D c m : ℕ) → level D m ≡ level D c → corner b D m
 unfolding corner side
 corner-beside b D c m e = rw e
 
-module _ (D c : ℕ) (is : proper D c ≡ true) (dx dy dz : ℤ) (d : ℕ) (direction : Direction dx dy dz d) (some : d ≡ 0 → ⊥) where
+module _ (D c : ℕ) (is : proper D c ≡ true) (step : ℕ → ℤ) (d : ℕ) (direction : Direction step d) (some : d ≡ 0 → ⊥) where
   abbrev k : ℕ
   k = level D c
 
   abbrev i : ℕ
   i = index D c
 
-  -- the step along axis a, and its digit
-  abbrev step : ℕ → ℤ
-  step a = pick a dx dy dz
-
-  digits : (a : ℕ) → a < 3 → digitOf (step a) ≡ d / 3 ^ a % 3
-  digits zero h = omega (arith, direction .digit-x some)
-  digits (suc zero) h = omega (arith, direction .digit-y some)
-  digits (suc (suc zero)) h = omega (arith, direction .digit-z some, direction .small)
-  digits (suc (suc (suc a))) h = absurd (omega arith)
-
   -- no carry out of the first label: the address is the neighbour's
-  pub found : carried k i d ≡ 0 → Neighbour D c dx dy dz (8 ^ k + stepped k i d)
+  pub found : carried k i d ≡ 0 → Neighbour D c step (8 ^ k + stepped k i d)
   unfolding corner side
   found e =
       let t = cell-at D k (stepped k i d) (level-le D c) (stepped-lt k i d) in
-      let s : ℕ = 2 ^ (D - k) in
-      let at : (a : ℕ) → a < 3 → Displaced (step a *ℤ pos s) (along (2 ^ a) k i * s) (along (2 ^ a) k (stepped k i d) * s) =
-      λ a h. →displaced (step a) s (along (2 ^ a) k i) (along (2 ^ a) k (stepped k i d)) (inside a h k i d (direction .small) (step a) (digits a h) e) in
       record {
         is-proper = t .is-proper;
         same-level = t .is-level;
-        x = rw (t .is-corner 1) (at 0 (omega arith));
-        y = rw (t .is-corner 2) (at 1 (omega arith));
-        z = rw (t .is-corner 4) (at 2 (omega arith));
+        each = λ a h.
+            rw (t .is-corner (2 ^ a))
+            (→displaced (step a) (2 ^ (D - k)) (along (2 ^ a) k i) (along (2 ^ a) k (stepped k i d)) (inside a h k i d (direction .small) (step a) (direction .digits some a h) e));
       }
 
   -- a carry out of it along axis a: no cell of the level stands where the neighbour would
-  missing-along : (a : ℕ) (h : a < 3) (m : ℕ) → level D m ≡ k → Displaced (step a *ℤ pos (side D c)) (corner (2 ^ a) D c) (corner (2 ^ a) D m) → carried k i d / 3 ^ a % 3 ≡ 0
+  missing-along : (m : ℕ) → Neighbour D c step m → EachAxis (λ a. carried k i d / 3 ^ a % 3 ≡ 0)
   unfolding corner
-  missing-along a h m l e = go (carried k i d / 3 ^ a % 3) refl
+  missing-along m n a h = go (carried k i d / 3 ^ a % 3) refl
     where
       from : along (2 ^ a) k i + above (step a) ≡ along (2 ^ a) k (index D m) + below (step a)
-      from = displaced→ (step a) (side D c) (along (2 ^ a) k i) (along (2 ^ a) k (index D m)) (side-pos D c) (rw (corner-beside (2 ^ a) D c m l) at e)
+      from = displaced→ (step a) (side D c) (along (2 ^ a) k i) (along (2 ^ a) k (index D m)) (side-pos D c) (rw (corner-beside (2 ^ a) D c m (n .same-level)) at (n .each a h))
 
       go : (g : ℕ) → carried k i d / 3 ^ a % 3 ≡ g → g ≡ 0
       go zero _ = refl
-      go (suc g) q = absurd (outside a h k i d (direction .small) (step a) (digits a h) (λ z. omega arith) (index D m) from)
+      go (suc g) q = absurd (outside a h k i d (direction .small) (step a) (direction .digits some a h) (λ z. omega arith) (index D m) from)
 
   -- a carry out of it: there is no neighbour
-  pub missing : (carried k i d ≡ 0 → ⊥) → (m : ℕ) → Neighbour D c dx dy dz m → ⊥
-  missing h m n = h (no-digits (carried k i d) (carried-lt k i d (direction .small)) none)
-    where
-      none : (a : ℕ) → a < 3 → carried k i d / 3 ^ a % 3 ≡ 0
-      none zero l = missing-along 0 l m (n .same-level) (n .x)
-      none (suc zero) l = missing-along 1 l m (n .same-level) (n .y)
-      none (suc (suc zero)) l = missing-along 2 l m (n .same-level) (n .z)
-      none (suc (suc (suc a))) l = absurd (omega arith)
+  pub missing : (carried k i d ≡ 0 → ⊥) → (m : ℕ) → Neighbour D c step m → ⊥
+  missing h m n = h (no-digits (carried k i d) (carried-lt k i d (direction .small)) (missing-along m n))
 
 -- ---- no second answer
 
-module _ (D c : ℕ) (dx dy dz : ℤ) where
-  same-place : (e : ℤ) {a b : ℕ} → e ≡ pos a → e ≡ pos b → a ≡ b
-  same-place e p q = ap above (sym p ∙ q)
-
-  pub one-neighbour : One (Neighbour D c dx dy dz)
+module _ (D c : ℕ) (d : ℕ → ℤ) where
+  pub one-neighbour : One (Neighbour D c d)
   one-neighbour m n p q =
-      one-cell D m n (p .is-proper) (q .is-proper) (p .same-level ∙ sym (q .same-level)) (same-place _ (p .x) (q .x)) (same-place _ (p .y) (q .y)) (same-place _ (p .z) (q .z))
+      one-cell D m n (p .is-proper) (q .is-proper) (p .same-level ∙ sym (q .same-level)) (λ a h. ap above (sym (p .each a h) ∙ q .each a h))
 
-  found-one : One (λ (r : Answer). (m : ℕ) × Neighbour D c dx dy dz m × (r ≡ given m))
-  found-one r s (m, p, a) (n, q, b) = a ∙ ap given (one-neighbour m n p q) ∙ sym b
-
-  pub one-neighbour-of : One (NeighbourOf D c dx dy dz)
+  pub one-neighbour-of : One (NeighbourOf D c d)
   one-neighbour-of =
-      one-decided alone (TooDeep D ∷ NoCell D c ∷ NoDirection dx dy dz ∷ Outside D c dx dy dz ∷ []) _
-      (one-refuses, (one-refuses, (one-refuses, (one-refuses, tt)))) found-one
+      one-decided alone (TooDeep deepest D ∷ NoCell D c ∷ NoDirection d ∷ Outside D c d ∷ []) _
+      (one-refuses, (one-refuses, (one-refuses, (one-refuses, tt)))) (one-given one-neighbour)

@@ -4,14 +4,27 @@ use mathlib.Core.Path.{_≡_, refl, sym, ap, _∙_}
 use Prim.Native.Nat.{ℕ, zero, suc, _+_, _-_, _*_, _/_, _%_, _^_, _<_, _≤_, zero-le, suc-le-suc}
 use native.Mathlib.Nat.{pow-zero, mul-one, zero-div, add-zero, add-suc, div-one}
 use native.Mathlib.Omega.{arith}
-use Rattle.cells.specs.Place.{along, number}
+use mathlib.Core.Bool.{Bool, true, _&&_}
+use Rattle.cells.specs.Place.{axes, EachAxis, allAxes, along, number}
+use Rattle.cells.proofs.Bools.{both-true}
 use Rattle.cells.proofs.Power.{pow2-suc, pow8-pos, pow8-suc, div-pow}
 
--- the one of three numbers that belongs to axis a
-abbrev pub pick : {A : Type 0} → ℕ → A → A → A → A
-pick zero x y z = x
-pick (suc zero) x y z = y
-pick (suc (suc a)) x y z = z
+-- what holds of x, y and z holds of each axis
+pub each-axis : (P : ℕ → Type 0) → P 0 → P 1 → P 2 → EachAxis P
+each-axis P x y z zero h = x
+each-axis P x y z (suc zero) h = y
+each-axis P x y z (suc (suc zero)) h = z
+each-axis P x y z (suc (suc (suc a))) h = absurd (omega arith)
+
+-- a test of all three axes, by each
+pub each-true : (P : ℕ → Bool) → allAxes P ≡ true → EachAxis (λ a. P a ≡ true)
+each-true P e =
+    let t = both-true (P 0) (P 1 && P 2) e in
+    let u = both-true (P 1) (P 2) (t .1) in
+    each-axis _ (t .0) (u .0) (u .1)
+
+pub all-true : (P : ℕ → Bool) → EachAxis (λ a. P a ≡ true) → allAxes P ≡ true
+all-true P h = rw (h 0 (omega arith), h 1 (omega arith), h 2 (omega arith))
 
 -- ---- ranges
 
@@ -52,7 +65,7 @@ number-along (suc n) v h =
     ∙ omega (arith, ih)
 
 -- a voxel is known by its coordinates
-pub same-voxel : (n u v : ℕ) → u < 8 ^ n → v < 8 ^ n → ((a : ℕ) → a < 3 → along (2 ^ a) n u ≡ along (2 ^ a) n v) → u ≡ v
+pub same-voxel : (n u v : ℕ) → u < 8 ^ n → v < 8 ^ n → EachAxis (λ a. along (2 ^ a) n u ≡ along (2 ^ a) n v) → u ≡ v
 same-voxel n u v hu hv e =
     let x : along 1 n u ≡ along 1 n v = e 0 (omega arith) in
     let y : along 2 n u ≡ along 2 n v = e 1 (omega arith) in
@@ -60,32 +73,22 @@ same-voxel n u v hu hv e =
     sym (number-along n u hu) ∙ rw (x, y, z) (number-along n v hv)
 
 -- a label's bit on an axis is that axis's
-pub label-bit : (a i j k : ℕ) → a < 3 → i < 2 → j < 2 → k < 2 → (i + 2 * j + 4 * k) / 2 ^ a % 2 ≡ pick a i j k
-label-bit zero i j k h hi hj hk = omega arith
-label-bit (suc zero) i j k h hi hj hk = omega arith
-label-bit (suc (suc zero)) i j k h hi hj hk = omega arith
-label-bit (suc (suc (suc a))) i j k h hi hj hk = absurd (omega arith)
+pub label-bit : (a i j k : ℕ) → a < 3 → i < 2 → j < 2 → k < 2 → (i + 2 * j + 4 * k) / 2 ^ a % 2 ≡ axes i j k a
+label-bit a i j k h hi hj hk = each-axis (λ a. (i + 2 * j + 4 * k) / 2 ^ a % 2 ≡ axes i j k a) (omega arith) (omega arith) (omega arith) a h
 
 -- halves and last bits, axis by axis
-pick-half : (a x y z : ℕ) → 2 * pick a (x / 2) (y / 2) (z / 2) + pick a (x % 2) (y % 2) (z % 2) ≡ pick a x y z
-pick-half zero x y z = omega arith
-pick-half (suc zero) x y z = omega arith
-pick-half (suc (suc a)) x y z = omega arith
+halves : (x y z : ℕ) → EachAxis (λ a. 2 * axes (x / 2) (y / 2) (z / 2) a + axes (x % 2) (y % 2) (z % 2) a ≡ axes x y z a)
+halves x y z = each-axis _ (omega arith) (omega arith) (omega arith)
 
-pick-zero : (a x y z : ℕ) → x < 1 → y < 1 → z < 1 → 0 ≡ pick a x y z
-pick-zero zero x y z hx hy hz = omega arith
-pick-zero (suc zero) x y z hx hy hz = omega arith
-pick-zero (suc (suc a)) x y z hx hy hz = omega arith
-
-pub along-number : (a n x y z : ℕ) → a < 3 → x < 2 ^ n → y < 2 ^ n → z < 2 ^ n → along (2 ^ a) n (number n x y z) ≡ pick a x y z
+pub along-number : (a n x y z : ℕ) → a < 3 → x < 2 ^ n → y < 2 ^ n → z < 2 ^ n → along (2 ^ a) n (number n x y z) ≡ axes x y z a
 unfolding number along
-along-number a zero x y z h hx hy hz = let e : 2 ^ 0 ≡ 1 = refl in pick-zero a x y z (omega arith) (omega arith) (omega arith)
+along-number a zero x y z h hx hy hz = let e : 2 ^ 0 ≡ 1 = refl in each-axis (λ a. 0 ≡ axes x y z a) (omega arith) (omega arith) (omega arith) a h
 along-number a (suc n) x y z h hx hy hz =
     let u = pow2-suc n in
     let ih = along-number a n (x / 2) (y / 2) (z / 2) h (omega arith) (omega arith) (omega arith) in
     let b = label-bit a (x % 2) (y % 2) (z % 2) h (omega arith) (omega arith) (omega arith) in
     along-step (2 ^ a) n (number n (x / 2) (y / 2) (z / 2)) (x % 2 + 2 * (y % 2) + 4 * (z % 2)) (omega arith)
-    ∙ omega (arith, ih, b, pick-half a x y z)
+    ∙ omega (arith, ih, b, halves x y z a h)
 
 -- ---- a coarser cube, of n levels fewer: its cells are the finer one's voxels divided
 
@@ -114,11 +117,8 @@ along-first b k (suc n) i =
     rw (add-suc, e) (along-step b (k + n) (i * 8 ^ n) 0 (omega arith) ∙ omega (arith, z, along-first b k n i, ap (λ (x : ℕ). along b k i * x) (pow2-suc n)))
 
 -- and its last voxel, whose labels within the cell are all 7
-all-bits : (a : ℕ) → a < 3 → 7 / 2 ^ a % 2 ≡ 1
-all-bits zero h = refl
-all-bits (suc zero) h = refl
-all-bits (suc (suc zero)) h = refl
-all-bits (suc (suc (suc a))) h = absurd (omega arith)
+all-bits : EachAxis (λ a. 7 / 2 ^ a % 2 ≡ 1)
+all-bits = each-axis _ refl refl refl
 
 pub along-last : (a : ℕ) → a < 3 → (k n i : ℕ) → along (2 ^ a) (k + n) (i * 8 ^ n + (8 ^ n - 1)) + 1 ≡ along (2 ^ a) k i * 2 ^ n + 2 ^ n
 unfolding along

@@ -8,8 +8,10 @@ use Prim.Native.Nat.{ℕ, zero, suc, _+_, _*_, _/_, _%_, _^_, _<_}
 use native.Mathlib.Omega.{arith}
 use lib.Dec.{T, eqb, ltb, eqb→eq, ltb→lt}
 use lib.ListN.{getD}
+use Rattle.cells.specs.Place.{EachAxis}
 use Rattle.cells.specs.Labels.{flips, carries}
 use Rattle.cells.specs.Payeur.{under, rule}
+use Rattle.cells.proofs.Places.{each-axis}
 use Rattle.cells.proofs.Table.{both, both-left, both-right, at}
 
 -- the table as the code has it: 27 entries for each label
@@ -54,15 +56,18 @@ right k x =
 pub record Fair (v d : ℕ) : Type 0 where
   pub printed : getD rules (v * 27 + d) 0 ≡ rule v d
   pub small : rule v d < 216
-  pub axis : (a : ℕ) → a < 3 → ByRule a v d (rule v d)
+  pub axis : EachAxis (λ a. ByRule a v d (rule v d))
 
 -- taken apart
 fair-entry : (v d e : ℕ) → T (both (eqb e (rule v d)) (both (ltb e 216) (both (by-rule 0 v d e) (both (by-rule 1 v d e) (by-rule 2 v d e)))))
-    → (e ≡ rule v d) × (e < 216) × ((a : ℕ) → a < 3 → ByRule a v d e)
+    → (e ≡ rule v d) × (e < 216) × EachAxis (λ a. ByRule a v d e)
 fair-entry v d e t = (
   eqb→eq _ _ (both-left (eqb e (rule v d)) _ t),
   ltb→lt _ _ (both-left (ltb e 216) _ t1),
-  axis,
+  each-axis _
+  (by-rule-is 0 v d e (both-left (by-rule 0 v d e) _ t2))
+  (by-rule-is 1 v d e (both-left (by-rule 1 v d e) _ (both-right (by-rule 0 v d e) _ t2)))
+  (by-rule-is 2 v d e (both-right (by-rule 1 v d e) _ (both-right (by-rule 0 v d e) _ t2))),
 )
   where
     t1 : T (both (ltb e 216) (both (by-rule 0 v d e) (both (by-rule 1 v d e) (by-rule 2 v d e))))
@@ -70,12 +75,6 @@ fair-entry v d e t = (
 
     t2 : T (both (by-rule 0 v d e) (both (by-rule 1 v d e) (by-rule 2 v d e)))
     t2 = both-right (ltb e 216) _ t1
-
-    axis : (a : ℕ) → a < 3 → ByRule a v d e
-    axis zero h = by-rule-is 0 v d e (both-left (by-rule 0 v d e) _ t2)
-    axis (suc zero) h = by-rule-is 1 v d e (both-left (by-rule 1 v d e) _ (both-right (by-rule 0 v d e) _ t2))
-    axis (suc (suc zero)) h = by-rule-is 2 v d e (both-right (by-rule 1 v d e) _ (both-right (by-rule 0 v d e) _ t2))
-    axis (suc (suc (suc a))) h = absurd (omega arith)
 
 tested : (k : ℕ) → k < 216 → T (right k (getD rules k 0))
 unfolding right by-rule under rule

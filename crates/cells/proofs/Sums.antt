@@ -6,7 +6,8 @@ use mathlib.Core.List.{List, [], _∷_}
 use Prim.Native.Nat.{ℕ, zero, suc, _+_, _-_, _*_, _/_, _%_, _^_, _<_, _≤_, zero-le, suc-le-suc}
 use native.Mathlib.Nat.{mul-left-comm, mod-eq-of-lt, add-mul-mod-self-right}
 use native.Mathlib.Omega.{arith}
-use borrow.Author.Tests.{eq-eqb, ne-eqb}
+use mathlib.Core.Logic.{_⊎_, inl, inr}
+use borrow.Author.Tests.{eq-eqb, ne-eqb, lt-ltb, le-ltb}
 use lib.Dec.{T, eqb, ltb, eqb→eq, ltb→lt}
 use lib.IntN.{ℤ, pos, negsuc, _+ℤ_}
 use lib.ListN.{getD}
@@ -14,8 +15,8 @@ use Rattle.cells.specs.Labels.{flips, carries}
 use Rattle.cells.specs.AhujaNash.{table2, plus, added, twos, summed}
 use Rattle.cells.specs.Place.{along, Displaced, Came}
 use Rattle.cells.proofs.Integers.{above, below, add-is}
-use Rattle.cells.proofs.Power.{pow2-suc, pow2-pos, pow8-suc}
-use Rattle.cells.proofs.Places.{pick, along-step, along-lt, same-voxel}
+use Rattle.cells.proofs.Power.{le-or-lt, pow2-suc, pow2-pos, pow8-suc}
+use Rattle.cells.proofs.Places.{each-axis, along-step, along-lt, same-voxel}
 use Rattle.cells.proofs.Table.{both, both-left, both-right, at}
 
 -- ---- the table's rule, over the whole table
@@ -60,7 +61,11 @@ unfolding bit-test
 unit-entry a v t = record {
   label = ltb→lt _ _ (both-left (ltb (entry a v % 10) 8) _ t);
   carry = eqb→eq _ _ (both-left (eqb (entry a v / 10) (carries (bit a v) 1)) _ t1);
-  bits = bits;
+  bits =
+      each-axis _
+      (eqb→eq _ _ (both-left (bit-test a v 0) _ t2))
+      (eqb→eq _ _ (both-left (bit-test a v 1) _ (both-right (bit-test a v 0) _ t2)))
+      (eqb→eq _ _ (both-right (bit-test a v 1) _ (both-right (bit-test a v 0) _ t2)));
 }
   where
     t1 : T (both (eqb (entry a v / 10) (carries (bit a v) 1)) (both (bit-test a v 0) (both (bit-test a v 1) (bit-test a v 2))))
@@ -68,12 +73,6 @@ unit-entry a v t = record {
 
     t2 : T (both (bit-test a v 0) (both (bit-test a v 1) (bit-test a v 2)))
     t2 = both-right (eqb (entry a v / 10) (carries (bit a v) 1)) _ t1
-
-    bits : (b : ℕ) → b < 3 → bit b (entry a v % 10) ≡ flips (bit b v) (unit (eqb a b))
-    bits zero h = eqb→eq _ _ (both-left (bit-test a v 0) _ t2)
-    bits (suc zero) h = eqb→eq _ _ (both-left (bit-test a v 1) _ (both-right (bit-test a v 0) _ t2))
-    bits (suc (suc zero)) h = eqb→eq _ _ (both-right (bit-test a v 1) _ (both-right (bit-test a v 0) _ t2))
-    bits (suc (suc (suc b))) h = absurd (omega arith)
 
 tested : (j : ℕ) → j < 24 → T (unit-test j (getD all-entries j 0))
 unfolding unit-test bit-test all-entries
@@ -195,34 +194,28 @@ twos-sum n (negsuc m) x x' h h' e =
 
 -- ---- THE LAW OF 000: where the displaced voxel lies in the root, adding the displacement by table 2, the last carry dropped, gives its path
 
-module _ (D u v : ℕ) (dx dy dz : ℤ) (came : Came D dx dy dz u v) where
-  abbrev by-x : ℕ
-  by-x = added 0 D u (twos D dx) 0
-
-  abbrev by-y : ℕ
-  by-y = added 1 D by-x (twos D dy) 0
-
-  at-axis : (a : ℕ) → a < 3 → along (2 ^ a) D (summed D dx dy dz u) ≡ along (2 ^ a) D v
+module _ (D : ℕ) (d : ℕ → ℤ) (u v : ℕ) (came : Came D d u v) where
+  -- after m axes, the coordinates of the first m are v's, the others u's
+  reached : (m : ℕ) → m ≤ 3 → (a : ℕ) → a < 3 → along (2 ^ a) D (summed m D d u) ≡ elim (ltb a m) [ true ↦ along (2 ^ a) D v | false ↦ along (2 ^ a) D u ]
   unfolding summed
-  at-axis zero h =
-      added-kept 2 (omega arith) 0 (omega arith) (λ e. omega arith) D by-y (twos D dz) 0 (omega arith)
-      ∙ added-kept 1 (omega arith) 0 (omega arith) (λ e. omega arith) D by-x (twos D dy) 0 (omega arith)
-      ∙ added-mod 0 (omega arith) D u (twos D dx)
-      ∙ twos-sum D dx (along 1 D u) (along 1 D v) (along-lt 1 D u) (along-lt 1 D v) (came .x)
-  at-axis (suc zero) h =
-      added-kept 2 (omega arith) 1 (omega arith) (λ e. omega arith) D by-y (twos D dz) 0 (omega arith)
-      ∙ added-mod 1 (omega arith) D by-x (twos D dy)
-      ∙ rw (added-kept 0 (omega arith) 1 (omega arith) (λ e. omega arith) D u (twos D dx) 0 (omega arith))
-      (twos-sum D dy (along 2 D u) (along 2 D v) (along-lt 2 D u) (along-lt 2 D v) (came .y))
-  at-axis (suc (suc zero)) h =
-      added-mod 2 (omega arith) D by-y (twos D dz)
-      ∙ rw (added-kept 1 (omega arith) 2 (omega arith) (λ e. omega arith) D by-x (twos D dy) 0 (omega arith), added-kept 0 (omega arith) 2 (omega arith) (λ e. omega arith) D u (twos D dx) 0 (omega arith))
-      (twos-sum D dz (along 4 D u) (along 4 D v) (along-lt 4 D u) (along-lt 4 D v) (came .z))
-  at-axis (suc (suc (suc a))) h = absurd (omega arith)
+  reached zero l a h = rw (le-ltb a 0 (omega arith))
+  reached (suc m) l a h = go (reached m (omega arith) a h) (le-or-lt (suc a) m) (le-or-lt a m)
+    where
+      go : along (2 ^ a) D (summed m D d u) ≡ elim (ltb a m) [ true ↦ along (2 ^ a) D v | false ↦ along (2 ^ a) D u ] → (suc a ≤ m) ⊎ (m < suc a) → (a ≤ m) ⊎ (m < a)
+          → along (2 ^ a) D (added m D (summed m D d u) (twos D (d m)) 0) ≡ elim (ltb a (suc m)) [ true ↦ along (2 ^ a) D v | false ↦ along (2 ^ a) D u ]
+      go ih (inl p) q = added-kept m (omega arith) a h (λ e. omega arith) D (summed m D d u) (twos D (d m)) 0 (omega arith) ∙ ih ∙ rw (lt-ltb a m p, lt-ltb a (suc m) (omega arith))
+      go ih (inr p) (inr q) = added-kept m (omega arith) a h (λ e. omega arith) D (summed m D d u) (twos D (d m)) 0 (omega arith) ∙ ih ∙ rw (le-ltb a m (omega arith), le-ltb a (suc m) (omega arith))
+      go ih (inr p) (inl q) =
+          let e : m ≡ a = omega arith in
+          rw (e, lt-ltb a (suc a) (omega arith))
+          (added-mod a h D (summed a D d u) (twos D (d a))
+          ∙ rw (rw (e, le-ltb a a (omega arith)) at ih) (twos-sum D (d a) (along (2 ^ a) D u) (along (2 ^ a) D v) (along-lt (2 ^ a) D u) (along-lt (2 ^ a) D v) (came .each a h)))
 
-  pub sum-came : summed D dx dy dz u ≡ v
+  pub sum-came : summed 3 D d u ≡ v
   unfolding summed
-  sum-came = same-voxel D (summed D dx dy dz u) v (added-lt 2 (omega arith) D by-y (twos D dz) 0 (omega arith)) (came .root) at-axis
+  sum-came =
+      same-voxel D (summed 3 D d u) v (added-lt 2 (omega arith) D (summed 2 D d u) (twos D (d 2)) 0 (omega arith)) (came .root)
+      (λ a h. reached 3 (omega arith) a h ∙ rw (lt-ltb a 3 h))
 
 -- ---- the paths of document 000: r057 + 101 = r275 along y, and r275 + 011 = r057, its last carry lost
 

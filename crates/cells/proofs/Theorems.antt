@@ -2,7 +2,7 @@
 -- Assumes nothing.
 use mathlib.Core.Path.{_≡_, refl, sym, ap, _∙_, subst₂}
 use mathlib.Core.Logic.{inr}
-use mathlib.Core.Bool.{true, false}
+use mathlib.Core.Bool.{true, false≢true}
 use Prim.Native.Nat.{ℕ, zero, suc, _+_, _-_, _*_, _^_, _<_, _≤_}
 use native.Mathlib.Nat.{mul-le-mul-right, mul-mod-left, add-sub-of-le, add-mul, one-mul, zero-mul}
 use native.Mathlib.Omega.{arith}
@@ -10,7 +10,7 @@ use lib.Pow.{pow-add}
 use borrow.Author.Tests.{le-leb, lt-ltb}
 use lib.IntN.{ℤ, pos, negsuc, negℤ, _+ℤ_, _*ℤ_}
 use Rattle.cells.specs.Cell.{level, proper, index, side}
-use Rattle.cells.specs.Place.{along, corner, Displaced}
+use Rattle.cells.specs.Place.{allAxes, along, corner, Displaced}
 use Rattle.cells.specs.Answer.{given, deepest}
 use Rattle.cells.specs.Corners.{onGrid, isCorner, CodeOf}
 use Rattle.cells.specs.Neighbour.{isStep, isNone, isDirection, Neighbour}
@@ -21,7 +21,7 @@ use Rattle.cells.proofs.Bools.{both-true}
 use Rattle.cells.proofs.CornerLaws.{side-pos}
 use Rattle.cells.proofs.Integers.{above, below, same, add-is, above-times, below-times}
 use Rattle.cells.proofs.NeighbourLaws.{displaced→}
-use Rattle.cells.proofs.Places.{along-lt}
+use Rattle.cells.proofs.Places.{all-true, along-lt}
 
 -- ---- the corner of a cell is a proper corner, and gives the cell's code
 
@@ -36,12 +36,12 @@ corner-on-grid b D c =
     let lt : a * s < 2 ^ D = omega (arith, add-mul a 1 s, one-mul s, side-pos D c) in
     rw (lt-ltb (a * s) (2 ^ D) lt, mul-mod-left a s)
 
-pub there-and-back : (D c : ℕ) → D ≤ deepest → proper D c ≡ true → CodeOf D (corner 1 D c) (corner 2 D c) (corner 4 D c) (level D c) (given c)
+pub there-and-back : (D c : ℕ) → D ≤ deepest → proper D c ≡ true → CodeOf D (λ a. corner (2 ^ a) D c) (level D c) (given c)
 unfolding isCorner
 there-and-back D c h p =
-    let g : isCorner D (corner 1 D c) (corner 2 D c) (corner 4 D c) (level D c) ≡ true =
+    let g : isCorner D (λ a. corner (2 ^ a) D c) (level D c) ≡ true =
     rw (le-leb (level D c) D (level-le D c), corner-on-grid 1 D c, corner-on-grid 2 D c, corner-on-grid 4 D c) in
-    inr (passes (deep-enough h), inr (passes (clash g), (c, record { is-proper = p; is-level = refl; is-x = refl; is-y = refl; is-z = refl }, refl)))
+    inr (passes (deep-enough h), inr (passes (clash g), (c, record { is-proper = p; is-level = refl; each = λ a h. refl }, refl)))
 
 -- ---- the step back
 
@@ -64,16 +64,14 @@ displaced-back z s x y e =
     let b : below (negℤ z *ℤ pos s) ≡ above z * s = below-times (negℤ z) s ∙ ap (λ (m : ℕ). m * s) (below-negated z) in
     same (pos y +ℤ negℤ z *ℤ pos s) (pos x) (omega (arith, u, p, q, above-times z s, below-times z s, a, b, add-is (pos y) (negℤ z *ℤ pos s)))
 
-pub step-back : (D c m : ℕ) (dx dy dz : ℤ) → proper D c ≡ true → Neighbour D c dx dy dz m → Neighbour D m (negℤ dx) (negℤ dy) (negℤ dz) c
+pub step-back : (D c m : ℕ) (d : ℕ → ℤ) → proper D c ≡ true → Neighbour D c d m → Neighbour D m (λ a. negℤ (d a)) c
 unfolding side
-step-back D c m dx dy dz p n =
+step-back D c m d p n =
     let l = n .same-level in
     record {
       is-proper = p;
       same-level = sym l;
-      x = rw l (displaced-back dx (2 ^ (D - level D c)) (corner 1 D c) (corner 1 D m) (n .x));
-      y = rw l (displaced-back dy (2 ^ (D - level D c)) (corner 2 D c) (corner 2 D m) (n .y));
-      z = rw l (displaced-back dz (2 ^ (D - level D c)) (corner 4 D c) (corner 4 D m) (n .z));
+      each = λ a h. rw l (displaced-back (d a) (2 ^ (D - level D c)) (corner (2 ^ a) D c) (corner (2 ^ a) D m) (n .each a h));
     }
 
 -- ---- the root has no neighbour, at any depth
@@ -97,15 +95,8 @@ none-still (pos zero) e = refl
 none-still (pos (suc n)) e = absurd (omega arith)
 none-still (negsuc n) e = absurd (omega arith)
 
-pub root-alone : (D m : ℕ) (dx dy dz : ℤ) → isDirection dx dy dz ≡ true → Neighbour D 1 dx dy dz m → ⊥
+pub root-alone : (D m : ℕ) (d : ℕ → ℤ) → isDirection d ≡ true → Neighbour D 1 d m → ⊥
 unfolding isDirection
-root-alone D m dx dy dz h n =
-    let x = none-still dx (root-still 1 D m dx (n .same-level) (n .x)) in
-    let y = none-still dy (root-still 2 D m dy (n .same-level) (n .y)) in
-    let z = none-still dz (root-still 4 D m dz (n .same-level) (n .z)) in
-    let t = both-true (isStep dx) _ h .1 in
-    let u = both-true (isStep dy) _ t .1 in
-    let v = both-true (isStep dz) _ u .1 in
-    let w : false ≡ true = rw (x, y, z) at v in
-    let f : _≡_ {A = ℕ} 0 1 = cc in
-    omega arith
+root-alone D m d h n =
+    let none : allAxes (λ a. isNone (d a)) ≡ true = all-true (λ a. isNone (d a)) (λ a l. none-still (d a) (root-still (2 ^ a) D m (d a) (n .same-level) (n .each a l))) in
+    false≢true (rw none at (both-true (allAxes (λ a. isStep (d a))) _ h .1))

@@ -10,7 +10,7 @@ use lib.Dec.{leb, ltb}
 use lib.Pow.{pow-add}
 use borrow.Author.Tests.{leb-true, ltb-true, le-leb, lt-ltb}
 use Rattle.cells.specs.Cell.{level, proper, index, side, start, span, holds}
-use Rattle.cells.specs.Place.{along, corner, Displaced, Came}
+use Rattle.cells.specs.Place.{EachAxis, along, corner, Displaced, Came}
 use Rattle.cells.specs.Neighbour.{Neighbour}
 use Rattle.cells.proofs.Integers.{above, below, add-is, above-times, below-times}
 use Rattle.cells.proofs.NeighbourLaws.{displaced→}
@@ -18,7 +18,7 @@ use Rattle.cells.proofs.Power.{pow8-pos}
 use Rattle.cells.proofs.Cells.{level-le}
 use Rattle.cells.proofs.Bools.{both-true}
 use Rattle.cells.proofs.CornerLaws.{index-lt, side-pos}
-use Rattle.cells.proofs.Places.{along-div, number-along}
+use Rattle.cells.proofs.Places.{along-div, same-voxel}
 
 module _ (D c : ℕ) (p : proper D c ≡ true) where
   abbrev k : ℕ
@@ -57,19 +57,14 @@ module _ (D c : ℕ) (p : proper D c ≡ true) where
       let e : k + n ≡ D = add-sub-of-le (level-le D c) in
       subst (λ (m : ℕ). along b m v / 2 ^ n ≡ along b k (index D c)) e (along-div b k n v ∙ ap (along b k) (quotient v h))
 
-  pub from-cube : (v : ℕ) → v < 8 ^ D → along 1 D v / side D c ≡ along 1 k (index D c) → along 2 D v / side D c ≡ along 2 k (index D c)
-      → along 4 D v / side D c ≡ along 4 k (index D c) → holds D c v ≡ true
+  pub from-cube : (v : ℕ) → v < 8 ^ D → EachAxis (λ a. along (2 ^ a) D v / side D c ≡ along (2 ^ a) k (index D c)) → holds D c v ≡ true
   unfolding side
-  from-cube v l x y z =
+  from-cube v l at =
       let e : k + n ≡ D = add-sub-of-le (level-le D c) in
       let q : ℕ = v / 8 ^ n in
       let d : 8 ^ k * 8 ^ n ≡ 8 ^ D = sym (pow-add 8 k n) ∙ ap (λ (m : ℕ). 8 ^ m) e in
       let w : q < 8 ^ k = div-lt-iff-lt-mul (pow8-pos n) .1 (omega arith) in
-      let at : (b : ℕ) → along b D v / 2 ^ n ≡ along b k q = λ b. subst (λ (m : ℕ). along b m v / 2 ^ n ≡ along b k q) e (along-div b k n v) in
-      let x′ : along 1 k q ≡ along 1 k (index D c) = sym (at 1) ∙ x in
-      let y′ : along 2 k q ≡ along 2 k (index D c) = sym (at 2) ∙ y in
-      let z′ : along 4 k q ≡ along 4 k (index D c) = sym (at 4) ∙ z in
-      from-quotient v (sym (number-along k q w) ∙ rw (x′, y′, z′) (number-along k (index D c) (index-lt D c p)))
+      from-quotient v (same-voxel k q (index D c) w (index-lt D c p) (λ a h. sym (subst (λ (m : ℕ). along (2 ^ a) m v / 2 ^ n ≡ along (2 ^ a) k q) e (along-div (2 ^ a) k n v)) ∙ at a h))
 
 -- ---- the neighbour by its voxels: each voxel of the cell, displaced by the cell's side, is one of the neighbour's
 
@@ -82,18 +77,16 @@ in-sides z s x x' h e =
     let w : x + above z * s ≡ x' + below z * s = omega (arith, u, p, q, above-times z s, below-times z s) in
     sym (add-mul-div-right x (above z) h) ∙ ap (λ (m : ℕ). m / s) w ∙ add-mul-div-right x' (below z) h
 
-module _ (D c m : ℕ) (dx dy dz : ℤ) (p : proper D c ≡ true) (next : Neighbour D c dx dy dz m) where
-  -- along one axis
-  beside : (b : ℕ) (d : ℤ) → Displaced (d *ℤ pos (side D c)) (corner b D c) (corner b D m) → (u v : ℕ) → holds D c u ≡ true → Displaced (d *ℤ pos (side D c)) (along b D u) (along b D v)
-      → along b D v / side D m ≡ along b (level D m) (index D m)
+module _ (D c m : ℕ) (d : ℕ → ℤ) (p : proper D c ≡ true) (next : Neighbour D c d m) where
+  pub neighbour-voxels : (u v : ℕ) → holds D c u ≡ true → Came D (λ a. d a *ℤ pos (side D c)) u v → holds D m v ≡ true
   unfolding corner side
-  beside b d e u v h f =
-      let l = next .same-level in
-      let s : ℕ = side D c in
-      let a = displaced→ d s (along b (level D c) (index D c)) (along b (level D c) (index D m)) (side-pos D c) (rw l at e) in
-      let q = in-sides d s (along b D u) (along b D v) (side-pos D c) f in
-      rw l (omega (arith, a, q, cube D c p b u h))
-
-  pub neighbour-voxels : (u v : ℕ) → holds D c u ≡ true → Came D (dx *ℤ pos (side D c)) (dy *ℤ pos (side D c)) (dz *ℤ pos (side D c)) u v → holds D m v ≡ true
-  neighbour-voxels u v h came =
-      from-cube D m (next .is-proper) v (came .root) (beside 1 dx (next .x) u v h (came .x)) (beside 2 dy (next .y) u v h (came .y)) (beside 4 dz (next .z) u v h (came .z))
+  neighbour-voxels u v h came = from-cube D m (next .is-proper) v (came .root) beside
+    where
+      -- along one axis
+      beside : EachAxis (λ a. along (2 ^ a) D v / side D m ≡ along (2 ^ a) (level D m) (index D m))
+      beside a l =
+          let same = next .same-level in
+          let s : ℕ = side D c in
+          let by = displaced→ (d a) s (along (2 ^ a) (level D c) (index D c)) (along (2 ^ a) (level D c) (index D m)) (side-pos D c) (rw same at (next .each a l)) in
+          let q = in-sides (d a) s (along (2 ^ a) D u) (along (2 ^ a) D v) (side-pos D c) (came .each a l) in
+          rw same (omega (arith, by, q, cube D c p (2 ^ a) u h))

@@ -35,6 +35,7 @@ unfoldable pub twos : ℕ → ℤ → ℕ
 twos n (pos d) = d % 2 ^ n
 twos n (negsuc d) = 2 ^ n - 1 - d % 2 ^ n
 
--- the path v displaced along x, then y, then z
-unfoldable pub summed : ℕ → ℤ → ℤ → ℤ → ℕ → ℕ
-summed n dx dy dz v = added 2 n (added 1 n (added 0 n v (twos n dx) 0) (twos n dy) 0) (twos n dz) 0
+-- the path v displaced by d along x, then y, then z: along the first m axes
+unfoldable pub summed : ℕ → ℕ → (ℕ → ℤ) → ℕ → ℕ
+summed zero n d v = v
+summed (suc a) n d v = added a n (summed a n d v) (twos n (d a)) 0

@@ -18,7 +18,10 @@ abbrev pub Test : Type 1
 Test = Answer → Type 0
 
 -- The tests run in order, and the first that fails decides: the call leaves `refuse a`, the test's answer with every lent byte as it was.
--- Where all tests pass, P holds of what the call leaves.
+-- Where all tests pass, P holds of what the call leaves. So `check` of a list l, whose row is TooDeep, Faulty:
+--   the depth is above the greatest: the answer is (1, 0, 0), whatever the list holds
+--   it is not, and the list has a fault, its first at index i: the answer is (2, 3 or 4, i, 1)
+--   neither test refuses: the answer is given (length l), the number of leaves
 abbrev pub Decided : {R : Type 0} → (Answer → R) → List Test → (R → Type 0) → R → Type 0
 Decided refuse [] P r = P r
 Decided refuse (F ∷ Fs) P r = ((a : Answer) × F a × (r ≡ refuse a)) ⊎ (((a : Answer) → F a → ⊥) × Decided refuse Fs P r)
@@ -35,10 +38,20 @@ keeping o a = (a, o)
 abbrev pub refuses : Answer → Type 0 → Test
 refuses q C a = C × (a ≡ q)
 
+-- i is the first number below n that has P
+pub record First (n : ℕ) (P : ℕ → Type 0) (i : ℕ) : Type 0 where
+  pub below : i < n
+  pub here : P i
+  pub before : (j : ℕ) → j < i → P j → ⊥
+
+-- the test that refuses with the answer q i, i the first number below n that has P
+abbrev pub refusesFirst : ℕ → (ℕ → Type 0) → (ℕ → Answer) → Test
+refusesFirst n P q a = (i : ℕ) × First n P i × (a ≡ q i)
+
 -- the greatest depth
 abbrev pub deepest : ℕ
 deepest = 10
 
--- number 1
-abbrev pub TooDeep : ℕ → Test
-TooDeep D = refuses (answer 1 0 0) (deepest < D)
+-- number 1: a depth above the limit
+abbrev pub TooDeep : ℕ → ℕ → Test
+TooDeep limit D = refuses (answer 1 0 0) (limit < D)

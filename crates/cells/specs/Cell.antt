@@ -34,6 +34,10 @@ span D c = 8 ^ (D - level D c)
 unfoldable pub start : ℕ → ℕ → ℕ
 start D c = index D c * span D c
 
+-- the voxel number after its last
+abbrev pub end : ℕ → ℕ → ℕ
+end D c = start D c + span D c
+
 -- whether the voxel of number v lies in the cell
 unfoldable pub holds : ℕ → ℕ → ℕ → Bool
-holds D c v = leb (start D c) v && ltb v (start D c + span D c)
+holds D c v = leb (start D c) v && ltb v (end D c)

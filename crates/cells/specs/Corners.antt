@@ -6,8 +6,8 @@ use mathlib.Core.List.{[], _∷_}
 use Prim.Native.Nat.{ℕ, _-_, _%_, _^_}
 use lib.Dec.{leb, ltb, eqb}
 use Rattle.cells.specs.Cell.{level, proper}
-use Rattle.cells.specs.Place.{corner}
-use Rattle.cells.specs.Answer.{answer, given, Test, Decided, alone, refuses, TooDeep}
+use Rattle.cells.specs.Place.{EachAxis, allAxes, corner}
+use Rattle.cells.specs.Answer.{answer, given, Test, Decided, alone, refuses, deepest, TooDeep}
 use Rattle.cells.specs.declared.Answer.{Answer}
 use Rattle.cells.specs.declared.corners.Corner.{Corner}
 
@@ -22,31 +22,27 @@ nowhere a = record { answer = a; x = 0; y = 0; z = 0; level = 0 }
 -- THE CALL place: code to corner and level
 abbrev pub PlaceOf : ℕ → ℕ → Corner → Type 0
 PlaceOf D c =
-    Decided nowhere (TooDeep D ∷ NoCell D c ∷ [])
+    Decided nowhere (TooDeep deepest D ∷ NoCell D c ∷ [])
     (λ r. r ≡ record { answer = given 0; x = corner 1 D c; y = corner 2 D c; z = corner 4 D c; level = level D c })
 
 -- whether a coordinate lies in a root of side w and is a multiple of s
 unfoldable pub onGrid : ℕ → ℕ → ℕ → Bool
 onGrid w s x = ltb x w && eqb (x % s) 0
 
--- whether a corner and a level are proper: the level is at most D, the corner lies in the root, each coordinate is a multiple of the side
-unfoldable pub isCorner : ℕ → ℕ → ℕ → ℕ → ℕ → Bool
-isCorner D x y z k = leb k D && (onGrid (2 ^ D) (2 ^ (D - k)) x && (onGrid (2 ^ D) (2 ^ (D - k)) y && onGrid (2 ^ D) (2 ^ (D - k)) z))
+-- whether a corner x and a level are proper: the level is at most D, the corner lies in the root, each coordinate is a multiple of the side
+unfoldable pub isCorner : ℕ → (ℕ → ℕ) → ℕ → Bool
+isCorner D x k = leb k D && allAxes (λ a. onGrid (2 ^ D) (2 ^ (D - k)) (x a))
 
 -- number 6: a corner and level that are not proper
-abbrev pub NoCorner : ℕ → ℕ → ℕ → ℕ → ℕ → Test
-NoCorner D x y z k = refuses (answer 6 0 0) (isCorner D x y z k ≡ false)
+abbrev pub NoCorner : ℕ → (ℕ → ℕ) → ℕ → Test
+NoCorner D x k = refuses (answer 6 0 0) (isCorner D x k ≡ false)
 
--- m is the cell of level k whose corner is x, y, z
-pub record CellAt (D x y z k m : ℕ) : Type 0 where
+-- m is the cell of level k whose corner is x
+pub record CellAt (D : ℕ) (x : ℕ → ℕ) (k m : ℕ) : Type 0 where
   pub is-proper : proper D m ≡ true
   pub is-level : level D m ≡ k
-  pub is-x : corner 1 D m ≡ x
-  pub is-y : corner 2 D m ≡ y
-  pub is-z : corner 4 D m ≡ z
+  pub each : EachAxis (λ a. corner (2 ^ a) D m ≡ x a)
 
 -- THE CALL code: corner and level to code
-abbrev pub CodeOf : ℕ → ℕ → ℕ → ℕ → ℕ → Answer → Type 0
-CodeOf D x y z k =
-    Decided alone (TooDeep D ∷ NoCorner D x y z k ∷ [])
-    (λ r. (m : ℕ) × CellAt D x y z k m × (r ≡ given m))
+abbrev pub CodeOf : ℕ → (ℕ → ℕ) → ℕ → Answer → Type 0
+CodeOf D x k = Decided alone (TooDeep deepest D ∷ NoCorner D x k ∷ []) (λ r. (m : ℕ) × CellAt D x k m × (r ≡ given m))

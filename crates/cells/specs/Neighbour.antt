@@ -2,11 +2,11 @@
 use mathlib.Core.Path.{_≡_}
 use mathlib.Core.Bool.{Bool, true, false, _&&_, not}
 use mathlib.Core.List.{[], _∷_}
-use Prim.Native.Nat.{ℕ, zero, suc}
+use Prim.Native.Nat.{ℕ, zero, suc, _^_}
 use lib.IntN.{ℤ, pos, negsuc, _*ℤ_}
 use Rattle.cells.specs.Cell.{level, proper, side}
-use Rattle.cells.specs.Place.{corner, Displaced}
-use Rattle.cells.specs.Answer.{answer, given, Test, Decided, alone, refuses, TooDeep}
+use Rattle.cells.specs.Place.{EachAxis, allAxes, corner, Displaced}
+use Rattle.cells.specs.Answer.{answer, given, Test, Decided, alone, refuses, deepest, TooDeep}
 use Rattle.cells.specs.Corners.{NoCell}
 use Rattle.cells.specs.declared.Answer.{Answer}
 
@@ -24,29 +24,27 @@ isNone (pos zero) = true
 isNone (pos (suc n)) = false
 isNone (negsuc n) = false
 
-unfoldable pub isDirection : ℤ → ℤ → ℤ → Bool
-isDirection dx dy dz = isStep dx && (isStep dy && (isStep dz && not (isNone dx && (isNone dy && isNone dz))))
+unfoldable pub isDirection : (ℕ → ℤ) → Bool
+isDirection d = allAxes (λ a. isStep (d a)) && not (allAxes (λ a. isNone (d a)))
 
 -- number 6: a bad direction
-abbrev pub NoDirection : ℤ → ℤ → ℤ → Test
-NoDirection dx dy dz = refuses (answer 6 1 0) (isDirection dx dy dz ≡ false)
+abbrev pub NoDirection : (ℕ → ℤ) → Test
+NoDirection d = refuses (answer 6 1 0) (isDirection d ≡ false)
 
 -- ---- the neighbour
 
 -- m is the cell of the same level as c, displaced by its own side along each axis
-pub record Neighbour (D c : ℕ) (dx dy dz : ℤ) (m : ℕ) : Type 0 where
+pub record Neighbour (D c : ℕ) (d : ℕ → ℤ) (m : ℕ) : Type 0 where
   pub is-proper : proper D m ≡ true
   pub same-level : level D m ≡ level D c
-  pub x : Displaced (dx *ℤ pos (side D c)) (corner 1 D c) (corner 1 D m)
-  pub y : Displaced (dy *ℤ pos (side D c)) (corner 2 D c) (corner 2 D m)
-  pub z : Displaced (dz *ℤ pos (side D c)) (corner 4 D c) (corner 4 D m)
+  pub each : EachAxis (λ a. Displaced (d a *ℤ pos (side D c)) (corner (2 ^ a) D c) (corner (2 ^ a) D m))
 
 -- number 7: the neighbour lies outside the root
-abbrev pub Outside : ℕ → ℕ → ℤ → ℤ → ℤ → Test
-Outside D c dx dy dz = refuses (answer 7 0 0) ((m : ℕ) → Neighbour D c dx dy dz m → ⊥)
+abbrev pub Outside : ℕ → ℕ → (ℕ → ℤ) → Test
+Outside D c d = refuses (answer 7 0 0) ((m : ℕ) → Neighbour D c d m → ⊥)
 
 -- THE CALL neighbour
-abbrev pub NeighbourOf : ℕ → ℕ → ℤ → ℤ → ℤ → Answer → Type 0
-NeighbourOf D c dx dy dz =
-    Decided alone (TooDeep D ∷ NoCell D c ∷ NoDirection dx dy dz ∷ Outside D c dx dy dz ∷ [])
-    (λ r. (m : ℕ) × Neighbour D c dx dy dz m × (r ≡ given m))
+abbrev pub NeighbourOf : ℕ → ℕ → (ℕ → ℤ) → Answer → Type 0
+NeighbourOf D c d =
+    Decided alone (TooDeep deepest D ∷ NoCell D c ∷ NoDirection d ∷ Outside D c d ∷ [])
+    (λ r. (m : ℕ) × Neighbour D c d m × (r ≡ given m))

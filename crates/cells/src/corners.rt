@@ -14,7 +14,7 @@ ghost use mathlib.Core.Bool.{true};
 ghost use Prim.Native.Nat.{_<_, _≤_};
 ghost use Rattle.cells.specs.Answer.{answer, deepest};
 ghost use Rattle.cells.specs.Cell.{proper};
-ghost use Rattle.cells.specs.Place.{corner};
+ghost use Rattle.cells.specs.Place.{axes, corner};
 ghost use Rattle.cells.specs.Corners.{nowhere, PlaceOf, CodeOf, onGrid, isCorner};
 
 // The least coordinates of a cell and its level, beside the answer. They are 0 in a refusal.
@@ -77,7 +77,7 @@ fn on_grid(w: u32, s: u32, x: u32) -> bool
 // Whether a corner and a level are proper.
 fn is_corner(depth: u32, x: u32, y: u32, z: u32, level: u32) -> bool
     requires { ⌜ depth ≤ deepest ⌝ }
-    ensures { λ r. ⌜ r ≡ isCorner depth x y z level ⌝ }
+    ensures { λ r. ⌜ r ≡ isCorner depth (axes x y z) level ⌝ }
 {
     if depth < level {
         return false;
@@ -95,7 +95,7 @@ fn is_corner(depth: u32, x: u32, y: u32, z: u32, level: u32) -> bool
 
 // The code of a corner and a level: 1 for the depth, 6 where they are not proper.
 pub fn code(depth: u32, x: u32, y: u32, z: u32, level: u32) -> Answer
-    ensures { λ r. ⌜ CodeOf depth x y z level r ⌝ }
+    ensures { λ r. ⌜ CodeOf depth (axes x y z) level r ⌝ }
 {
     if DEEPEST < depth {
         return refusal(1, 0, 0);

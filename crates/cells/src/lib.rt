@@ -1,8 +1,13 @@
 // Cells of a root cube by their codes: document 01, "Cells and codes" and "Neighbours".
-// A host calls `corners::place`, `corners::code` and `neighbours::neighbour`; `inner` is for the crates above.
+// A host calls `place`, `code` and `neighbour`; `inner` is for the crates above.
 pub mod corners;
 pub mod inner;
 pub mod neighbours;
+
+pub use corners::Corner;
+pub use corners::code;
+pub use corners::place;
+pub use neighbours::neighbour;
 
 // The greatest depth of a root cube.
 pub const DEEPEST: u32 = 10;

@@ -6,6 +6,7 @@ use crate::inner::refusal;
 use crate::inner::success;
 ghost use mathlib.Core.Path.{_≡_};
 ghost use Prim.Native.Nat.{_<_};
+ghost use Rattle.cells.specs.Place.{axes};
 ghost use Rattle.cells.specs.Neighbour.{NeighbourOf};
 ghost use Rattle.cells.specs.Inner.{Direction, digitOf};
 ghost use Rattle.cells.specs.Payeur as Payeur;
@@ -270,7 +271,7 @@ fn digit(d: i32) -> u32
 
 // The number of a direction, 1 to 26, or 0 for a bad one.
 fn direction(dx: i32, dy: i32, dz: i32) -> u32
-    ensures { λ r. ⌜ Direction dx dy dz r ⌝ }
+    ensures { λ r. ⌜ Direction (axes dx dy dz) r ⌝ }
 {
     let x = digit(dx);
     let y = digit(dy);
@@ -291,7 +292,7 @@ fn direction(dx: i32, dy: i32, dz: i32) -> u32
 // Its labels are worked out from the last to the first: each is replaced by its rule, and the carry goes to the label on its left. A carry out of the first
 // label leaves the root.
 pub fn neighbour(depth: u32, code: u32, dx: i32, dy: i32, dz: i32) -> Answer
-    ensures { λ r. ⌜ NeighbourOf depth code dx dy dz r ⌝ }
+    ensures { λ r. ⌜ NeighbourOf depth code (axes dx dy dz) r ⌝ }
 {
     if DEEPEST < depth {
         return refusal(1, 0, 0);

@@ -8,6 +8,7 @@ use Prim.Native.Nat.{ℕ, _-_, _/_, _^_, _≤_, _<_}
 use native.Mathlib.Omega.{arith}
 use borrow.Author.Tests.{not-true, not-false}
 use Rattle.cells.specs.Answer.{given, deepest}
+use Rattle.cells.specs.Place.{axes}
 use Rattle.cells.proofs.Bools.{clash}
 use Rattle.cells.proofs.Decisions.{passes, deep-enough}
 use Rattle.cells.specs.Corners.{isCorner}
@@ -26,11 +27,11 @@ module _ (c : tie.Else2) where
   deep : start .args .depth ≤ deepest
   deep = c .before .before .if1 .left
 
-  corner : isCorner (start .args .depth) (start .args .x) (start .args .y) (start .args .z) (start .args .level) ≡ true
+  corner : isCorner (start .args .depth) (axes (start .args .x) (start .args .y) (start .args .z)) (start .args .level) ≡ true
   corner = sym (c .before .is-corner .ensures) ∙ not-false _ (c .if2 .left)
 
-  grid : IsCorner (start .args .depth) (start .args .x) (start .args .y) (start .args .z) (start .args .level)
-  grid = is-corner (start .args .depth) (start .args .x) (start .args .y) (start .args .z) (start .args .level) corner
+  grid : IsCorner (start .args .depth) (axes (start .args .x) (start .args .y) (start .args .z)) (start .args .level)
+  grid = is-corner (start .args .depth) _ (start .args .level) corner
 
   some-side : (s : ℕ) → s ≡ 2 ^ (start .args .depth - start .args .level) → 0 < s
   some-side s e = omega (arith, e, pow2-pos (start .args .depth - start .args .level))

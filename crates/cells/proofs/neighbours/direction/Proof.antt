@@ -4,10 +4,13 @@ use mathlib.Core.Path.{_≡_, ap, _∙_, subst}
 use Prim.Native.Nat.{ℕ}
 use borrow.Author.Needs.{needs}
 use native.Mathlib.Omega.{arith}
+use lib.IntN.{ℤ}
 use mir.Syntax.{w32}
 use mir.ValLaws.{toZ-ofZ}
+use Rattle.cells.specs.Place.{axes}
 use Rattle.cells.specs.Inner.{digitOf, Direction}
-use Rattle.cells.proofs.Directions.{bad-x, bad-y, bad-z, numbered}
+use Rattle.cells.proofs.Directions.{bad-step, numbered}
+use Rattle.cells.proofs.Places.{each-axis}
 use Rattle.cells.proofs.neighbours.direction.Statement.{statement}
 use Rattle.cells.proofs.neighbours.direction.Tie as tie
 
@@ -25,29 +28,22 @@ module _ (c : tie.After-digit3) where
   at-z : c .digit3 .result ≡ digitOf (s .args .dz)
   at-z = c .digit3 .ensures ∙ ap digitOf (toZ-ofZ w32 (s .args .dz) (s .fits .dz))
 
+  abbrev steps : ℕ → ℤ
+  steps = axes (s .args .dx) (s .args .dy) (s .args .dz)
+
 returns : tie.Need-returns
-returns c =
-    let q = c .before in
-    let a = s q .args in
-    bad-x (a .dx) (a .dy) (a .dz) (omega (arith, at-x q))
+returns c = let q = c .before in bad-step (steps q) 0 (omega arith) (omega (arith, at-x q))
 
 returns-2 : tie.Need-returns-2
-returns-2 c =
-    let q = c .before .before in
-    let a = s q .args in
-    bad-y (a .dx) (a .dy) (a .dz) (omega (arith, at-x q)) (omega (arith, at-y q))
+returns-2 c = let q = c .before .before in bad-step (steps q) 1 (omega arith) (omega (arith, at-y q))
 
 returns-3 : tie.Need-returns-3
-returns-3 c =
-    let q = c .before .before .before in
-    let a = s q .args in
-    bad-z (a .dx) (a .dy) (a .dz) (omega (arith, at-x q)) (omega (arith, at-y q)) (omega (arith, at-z q))
+returns-3 c = let q = c .before .before .before in bad-step (steps q) 2 (omega arith) (omega (arith, at-z q))
 
 returns-4 : tie.Need-returns-4
 returns-4 c =
     let q = c .before .before .before in
-    let a = s q .args in
-    subst (λ (d : ℕ). Direction (a .dx) (a .dy) (a .dz) d) (omega (arith, at-x q, at-y q, at-z q)) (numbered (a .dx) (a .dy) (a .dz) (omega (arith, at-x q)) (omega (arith, at-y q)) (omega (arith, at-z q)))
+    subst (Direction (steps q)) (omega (arith, at-x q, at-y q, at-z q)) (numbered (steps q) (each-axis _ (omega (arith, at-x q)) (omega (arith, at-y q)) (omega (arith, at-z q))))
 
 pub direction-spec : {M : Type 1} → statement M
 direction-spec =

@@ -8,9 +8,11 @@ use native.Mathlib.Nat.{mul-le-mul-right}
 use native.Mathlib.Omega.{arith}
 use borrow.Author.Needs.{needs}
 use borrow.Author.Tests.{not-true, not-false}
+use lib.IntN.{ℤ}
 use mir.Syntax.{w32}
 use mir.ValLaws.{toZ-ofZ}
 use Rattle.cells.specs.Cell.{level, proper, index}
+use Rattle.cells.specs.Place.{axes}
 use Rattle.cells.specs.Answer.{given, deepest}
 use Rattle.cells.specs.Inner.{Direction}
 use Rattle.cells.specs.Payeur.{carried, stepped}
@@ -52,7 +54,10 @@ module _ (c : tie.After-direction Inv-loop μ-loop) where
   is : proper (s .args .depth) (s .args .code) ≡ true
   is = sym (c .before .before .is-proper .ensures) ∙ not-false _ (c .before .if2 .left)
 
-  directed : Direction (s .args .dx) (s .args .dy) (s .args .dz) d
+  abbrev steps : ℕ → ℤ
+  steps = axes (s .args .dx) (s .args .dy) (s .args .dz)
+
+  directed : Direction steps d
   directed = rw (toZ-ofZ w32 (s .args .dx) (s .fits .dx), toZ-ofZ w32 (s .args .dy) (s .fits .dy), toZ-ofZ w32 (s .args .dz) (s .fits .dz)) at (c .direction .ensures)
 
   -- 8 ^ k fits with room for a bit
@@ -87,7 +92,7 @@ returns-4 c =
         passes (clash (is q)),
         inr (
           passes (clash (directed q .good (l .before .if3 .left))),
-          inl (_, (missing (a .depth) (a .code) (is q) (a .dx) (a .dy) (a .dz) (d q) (directed q) (l .before .if3 .left) (λ z. omega (arith, e, z, c .before .before .loop-test .taken)), refl), c .refusal4 .ensures),
+          inl (_, (missing (a .depth) (a .code) (is q) (steps q) (d q) (directed q) (l .before .if3 .left) (λ z. omega (arith, e, z, c .before .before .loop-test .taken)), refl), c .refusal4 .ensures),
         ),
       ),
     )
@@ -130,7 +135,7 @@ returns-5 c =
     let q = l .before .before in
     let a = s q .args in
     let w = worked l (c .before .loop-test .left) in
-    let n = found (a .depth) (a .code) (is q) (a .dx) (a .dy) (a .dz) (d q) (directed q) (l .before .if3 .left) (w .0) in
+    let n = found (a .depth) (a .code) (is q) (steps q) (d q) (directed q) (l .before .if3 .left) (w .0) in
     inr (
       passes (deep-enough (deep q)),
       inr (
