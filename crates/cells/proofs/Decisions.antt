@@ -1,12 +1,12 @@
 -- How a row of tests decides, and how it is met: where each test refuses with one answer at most and one thing at most holds past them, no second answer fits. Assumes nothing.
 use mathlib.Core.Path.{_≡_, sym, ap, _∙_, subst⁻¹}
-use mathlib.Core.Logic.{_⊎_, inl, inr}
+use mathlib.Core.Logic.{inl, inr}
 use mathlib.Core.List.{List, [], _∷_, _++_}
 use Prim.Native.Nat.{ℕ, _≤_, _<_}
 use native.Mathlib.Omega.{arith}
-use Rattle.cells.specs.Answer.{given, Test, Decided, alone, refuses, First, refusesFirst}
+use Rattle.cells.specs.Answer.{given, Test, Decided, alone, refuses, refusesFirst}
 use Rattle.cells.specs.declared.Answer.{Answer}
-use Rattle.cells.proofs.Power.{le-or-lt}
+use Rattle.cells.proofs.Firsts.{one-first}
 
 -- at most one thing has P
 abbrev pub One : {R : Type 0} → (R → Type 0) → Type 0
@@ -27,15 +27,6 @@ one-given one r s (m, p, e) (n, q, f) = e ∙ ap given (one m n p q) ∙ sym f
 
 pub one-refuses : {q : Answer} {C : Type 0} → One (refuses q C)
 one-refuses a b (_, e) (_, f) = e ∙ sym f
-
--- a first number is one alone
-pub one-first : {n : ℕ} {P : ℕ → Type 0} → One (First n P)
-one-first i j p q = go (le-or-lt i j) (le-or-lt j i)
-  where
-    go : (i ≤ j) ⊎ (j < i) → (j ≤ i) ⊎ (i < j) → i ≡ j
-    go (inl h) (inl k) = omega arith
-    go (inr h) k = absurd (p .before j h (q .here))
-    go (inl h) (inr k) = absurd (q .before i k (p .here))
 
 pub one-refuses-first : {n : ℕ} {P : ℕ → Type 0} {q : ℕ → Answer} → One (refusesFirst n P q)
 one-refuses-first {n} {P} {q} a b (i, x, e) (j, y, f) = e ∙ ap q (one-first i j x y) ∙ sym f
@@ -83,6 +74,11 @@ Numbered (F ∷ Fs) = ((a : Answer) → F a → a .number ≡ 0 → ⊥) × Numb
 pub refuses-numbered : {q : Answer} {C : Type 0} → (q .number ≡ 0 → ⊥) → (a : Answer) → refuses q C a → a .number ≡ 0 → ⊥
 refuses-numbered n a (_, e) z = n (ap (λ (x : Answer). x .number) (sym e) ∙ z)
 
+-- all tests of a row pass
+abbrev pub Passed : List Test → Type 0
+Passed [] = Unit {0}
+Passed (F ∷ Fs) = ((a : Answer) → F a → ⊥) × Passed Fs
+
 -- a row of tests, and then another: where the answer r of the first row's call is no success, it is passed on
 pub decided-first : {S : Type 0} (refuse : Answer → S) (Fs Gs : List Test) (P : Answer → Type 0) (Q : S → Type 0) (r : Answer)
     → (P r → ⊥) → Decided alone Fs P r → Decided refuse (Fs ++ Gs) Q (refuse r)
@@ -97,12 +93,29 @@ decided-next refuse [] Gs P Q r s of-none z to d = to d
 decided-next refuse (F ∷ Fs) Gs P Q r s (of-f, of-fs) z to (inl (a, t, e)) = absurd (of-f a t (ap (λ (x : Answer). x .number) (sym e) ∙ z))
 decided-next refuse (F ∷ Fs) Gs P Q r s (of-f, of-fs) z to (inr (n, d)) = inr (n, decided-next refuse Fs Gs P Q r s of-fs z to d)
 
--- and P holds
-pub decided-holds : (Fs : List Test) (P : Answer → Type 0) (r : Answer) → Numbered Fs → r .number ≡ 0 → Decided alone Fs P r → P r
-decided-holds [] P r of-none z d = d
-decided-holds (F ∷ Fs) P r (of-f, of-fs) z (inl (a, t, e)) = absurd (of-f a t (ap (λ (x : Answer). x .number) (sym e) ∙ z))
-decided-holds (F ∷ Fs) P r (of-f, of-fs) z (inr (n, d)) = decided-holds Fs P r of-fs z d
+-- each of its tests passes, and P holds
+pub decided-passed : (Fs : List Test) (P : Answer → Type 0) (r : Answer) → Numbered Fs → r .number ≡ 0 → Decided alone Fs P r → Passed Fs × P r
+decided-passed [] P r of-none z d = (tt, d)
+decided-passed (F ∷ Fs) P r (of-f, of-fs) z (inl (a, t, e)) = absurd (of-f a t (ap (λ (x : Answer). x .number) (sym e) ∙ z))
+decided-passed (F ∷ Fs) P r (of-f, of-fs) z (inr (n, d)) = let (ns, p) = decided-passed Fs P r of-fs z d in ((n, ns), p)
 
--- only one thing equals a
-pub one-equal : {R : Type 0} {a : R} → One (λ (r : R). r ≡ a)
-one-equal r s e f = e ∙ sym f
+-- ---- a call that opens with another's tests: it asks that call, passes a refusal on, and goes on where its number is 0
+
+-- the tests Fs of the asked call refuse with numbers that are not 0, P is what it tells of success, and K is what is then known
+pub record Opening (Fs : List Test) (P K : Answer → Type 0) : Type 0 where
+  pub numbered : Numbered Fs
+  pub succeeds : (r : Answer) → P r → r .number ≡ 0
+  pub known : (r : Answer) → Passed Fs → P r → K r
+
+module _ {Fs : List Test} {P K : Answer → Type 0} (o : Opening Fs P K) (r : Answer) (d : Decided alone Fs P r) where
+  -- a refusal is passed on
+  pub opening-refuses : {S : Type 0} (refuse : Answer → S) (Gs : List Test) (Q : S → Type 0) → (r .number ≡ 0 → ⊥) → Decided refuse (Fs ++ Gs) Q (refuse r)
+  opening-refuses refuse Gs Q some = decided-first refuse Fs Gs P Q r (λ p. some (o .succeeds r p)) d
+
+  -- else the further tests decide
+  pub opening-passes : {S : Type 0} (refuse : Answer → S) (Gs : List Test) (Q : S → Type 0) (s : S) → r .number ≡ 0 → Decided refuse Gs Q s → Decided refuse (Fs ++ Gs) Q s
+  opening-passes refuse Gs Q s z q = decided-next refuse Fs Gs P Q r s (o .numbered) z (λ _. q) d
+
+  -- and K holds
+  pub opening-known : r .number ≡ 0 → K r
+  opening-known z = let (ns, p) = decided-passed Fs P r (o .numbered) z d in o .known r ns p

@@ -4,7 +4,8 @@ pub mod Bools
 pub mod Power
 pub mod Table
 pub mod Integers
--- what a table of refusals decides
+-- first numbers; what a table of refusals decides
+pub mod Firsts
 pub mod Decisions
 -- a proper code as level, index and levels below: the one view of a cell; the other views from it
 pub mod Cells

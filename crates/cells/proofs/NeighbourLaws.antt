@@ -8,12 +8,13 @@ use native.Mathlib.Omega.{arith}
 use lib.IntN.{ℤ, pos, _+ℤ_, _*ℤ_}
 use Rattle.cells.specs.Cell.{level, proper, index, side}
 use Rattle.cells.specs.Place.{EachAxis, along, corner, Displaced}
-use Rattle.cells.specs.Answer.{alone, deepest, TooDeep}
+use Rattle.cells.specs.Answer.{given, alone, deepest, TooDeep}
+use Rattle.cells.specs.declared.Answer.{Answer}
 use Rattle.cells.specs.Corners.{NoCell}
 use Rattle.cells.specs.Neighbour.{NoDirection, Neighbour, Outside, NeighbourOf}
 use Rattle.cells.specs.Inner.{digitOf, Direction}
 use Rattle.cells.specs.Payeur.{stepped, carried}
-use Rattle.cells.proofs.Decisions.{One, one-given, one-refuses, one-decided}
+use Rattle.cells.proofs.Decisions.{One, one-given, one-refuses, one-decided, refuses-numbered, Opening}
 use Rattle.cells.proofs.Cells.{level-le}
 use Rattle.cells.proofs.CornerLaws.{side-pos, cell-at, one-cell}
 use Rattle.cells.proofs.Directions.{forth-step}
@@ -113,6 +114,16 @@ module _ (D c : ℕ) (is : proper D c ≡ true) (step : ℕ → ℤ) (d : ℕ) (
   -- a carry out of it: there is no neighbour
   pub missing : (carried k i d ≡ 0 → ⊥) → (m : ℕ) → Neighbour D c step m → ⊥
   missing h m n = h (no-digits (carried k i d) (carried-lt k i d (direction .small)) (missing-along m n))
+
+-- ---- a call that opens with the tests of `neighbour`, past the depth's
+
+pub neighbours : (D c : ℕ) (d : ℕ → ℤ)
+    → Opening (NoCell D c ∷ NoDirection d ∷ Outside D c d ∷ []) (λ r. (m : ℕ) × Neighbour D c d m × (r ≡ given m)) (λ r. Neighbour D c d (r .place))
+neighbours D c d = record {
+  numbered = (refuses-numbered (λ z. omega arith), (refuses-numbered (λ z. omega arith), (refuses-numbered (λ z. omega arith), tt)));
+  succeeds = λ r (m, n, e). ap (λ (a : Answer). a .number) e;
+  known = λ r passed (m, n, e). subst (Neighbour D c d) (sym (ap (λ (a : Answer). a .place) e)) n;
+}
 
 -- ---- no second answer
 

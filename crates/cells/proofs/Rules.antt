@@ -65,9 +65,9 @@ fair-entry v d e t = (
   eqb→eq _ _ (both-left (eqb e (rule v d)) _ t),
   ltb→lt _ _ (both-left (ltb e 216) _ t1),
   each-axis _
-  (by-rule-is 0 v d e (both-left (by-rule 0 v d e) _ t2))
-  (by-rule-is 1 v d e (both-left (by-rule 1 v d e) _ (both-right (by-rule 0 v d e) _ t2)))
-  (by-rule-is 2 v d e (both-right (by-rule 1 v d e) _ (both-right (by-rule 0 v d e) _ t2))),
+      (by-rule-is 0 v d e (both-left (by-rule 0 v d e) _ t2))
+      (by-rule-is 1 v d e (both-left (by-rule 1 v d e) _ (both-right (by-rule 0 v d e) _ t2)))
+      (by-rule-is 2 v d e (both-right (by-rule 1 v d e) _ (both-right (by-rule 0 v d e) _ t2))),
 )
   where
     t1 : T (both (ltb e 216) (both (by-rule 0 v d e) (both (by-rule 1 v d e) (by-rule 2 v d e))))

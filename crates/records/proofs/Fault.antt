@@ -9,7 +9,7 @@ use native.Mathlib.Omega.{arith}
 use lib.Dec.{leb, ltb, eqb}
 use lib.ListN.{length, getD}
 use borrow.Author.Tests.{ltb-false, le-leb, lt-leb, le-ltb, eqb-true, eq-eqb}
-use Rattle.cells.specs.Cell.{level, proper, start, span}
+use Rattle.cells.specs.Cell.{level, proper, start, span, end}
 use Rattle.records.specs.Record.{Ordered, Condensed, Good}
 use Rattle.records.specs.Fault.{allFrom, early, eightAt, numbered, fault}
 use Rattle.cells.proofs.Power.{le-or-lt, pow8-pos}
@@ -30,24 +30,20 @@ pub index-of : (c : ℕ) (l : List ℕ) → List·Memᴰ c l → (i : ℕ) × (i
 index-of c (x ∷ l) (List·Memᴰ·head e) = (0, suc-le-suc zero-le, sym e)
 index-of c (x ∷ l) (List·Memᴰ·tail m) = let (i, h, e) = index-of c l m in (suc i, suc-le-suc h, e)
 
--- the end of a leaf
-abbrev pub end : ℕ → ℕ → ℕ
-end D c = start D c + span D c
-
 ordered-of : (D from : ℕ) (l : List ℕ) → ((i : ℕ) → i < length l → proper D (getD l i 0) ≡ true) → (0 < length l → from ≤ start D (getD l 0 0))
     → ((i : ℕ) → suc i < length l → end D (getD l i 0) ≤ start D (getD l (suc i) 0)) → Ordered D from l
 unfolding Ordered
 ordered-of D from [] p f s = tt
 ordered-of D from (c ∷ l) p f s =
-    (p 0 (omega arith), f (omega arith), ordered-of D (start D c + span D c) l (λ i h. p (suc i) (suc-le-suc h)) (λ h. s 0 (suc-le-suc h)) (λ i h. s (suc i) (suc-le-suc h)))
+    (p 0 (omega arith), f (omega arith), ordered-of D (end D c) l (λ i h. p (suc i) (suc-le-suc h)) (λ h. s 0 (suc-le-suc h)) (λ i h. s (suc i) (suc-le-suc h)))
 
 -- an earlier leaf ends before a later one starts
 pub in-order : (D from : ℕ) (l : List ℕ) → Ordered D from l → (i j : ℕ) → i < j → j < length l → end D (getD l i 0) ≤ start D (getD l j 0)
 unfolding Ordered
 in-order D from [] o i j h k = absurd (not-suc-le-zero k)
 in-order D from (c ∷ l) (p, f, o) i zero h k = absurd (not-suc-le-zero h)
-in-order D from (c ∷ l) (p, f, o) zero (suc j) h k = member D (start D c + span D c) l _ o (member-at l j (le-of-suc-le-suc k)) .1
-in-order D from (c ∷ l) (p, f, o) (suc i) (suc j) h k = in-order D (start D c + span D c) l o i j (le-of-suc-le-suc h) (le-of-suc-le-suc k)
+in-order D from (c ∷ l) (p, f, o) zero (suc j) h k = member D (end D c) l _ o (member-at l j (le-of-suc-le-suc k)) .1
+in-order D from (c ∷ l) (p, f, o) (suc i) (suc j) h k = in-order D (end D c) l o i j (le-of-suc-le-suc h) (le-of-suc-le-suc k)
 
 -- ---- eight siblings
 
@@ -85,7 +81,7 @@ module _ (D from : ℕ) (l : List ℕ) (o : Ordered D from l) (p : ℕ) (all : (
       parent D p 0 (omega arith) (omega (arith, pow8-pos (level D (8 * p + 0)))) q
 
   -- two neighbours among the children
-  neighbour : (j : ℕ) → suc j < 8 → start D (8 * p + suc j) ≡ start D (8 * p + j) + span D (8 * p + j)
+  neighbour : (j : ℕ) → suc j < 8 → start D (8 * p + suc j) ≡ end D (8 * p + j)
   neighbour j h =
       let (q, a) = is-parent in
       let x = child D p j q a (omega arith) in

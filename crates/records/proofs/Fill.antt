@@ -7,7 +7,7 @@ use mathlib.Core.List.{List, [], _∷_, _++_, List·Memᴰ, List·Memᴰ·not-ni
 use Prim.Native.Nat.{ℕ, zero, suc, _+_, _-_, _*_, _/_, _^_, _≤_, _<_, zero-le}
 use native.Mathlib.Nat.{le-refl, zero-mul, div-lt-iff-lt-mul, div-mul-le-self, lt-div-mul-add}
 use native.Mathlib.Omega.{arith}
-use Rattle.cells.specs.Cell.{level, proper, start, span, holds}
+use Rattle.cells.specs.Cell.{level, proper, start, span, end, holds}
 use Rattle.records.specs.Record.{black, Ordered, Condensed, Good}
 use Rattle.records.specs.Fault.{allFrom}
 use Rattle.cells.proofs.Power.{le-or-lt, pow8-suc, pow8-inj}
@@ -34,12 +34,12 @@ goodList D P = leaves P D 1 0
 
 unfoldable pub Between : ℕ → ℕ → List ℕ → ℕ → Type 0
 Between D a [] b = a ≤ b
-Between D a (c ∷ l) b = (proper D c ≡ true) × (a ≤ start D c) × Between D (start D c + span D c) l b
+Between D a (c ∷ l) b = (proper D c ≡ true) × (a ≤ start D c) × Between D (end D c) l b
 
 pub between-ordered : (D a : ℕ) (l : List ℕ) (b : ℕ) → Between D a l b → Ordered D a l
 unfolding Between Ordered
 between-ordered D a [] b h = tt
-between-ordered D a (c ∷ l) b (p, f, h) = (p, f, between-ordered D (start D c + span D c) l b h)
+between-ordered D a (c ∷ l) b (p, f, h) = (p, f, between-ordered D (end D c) l b h)
 
 between-earlier : (D a a′ : ℕ) (l : List ℕ) (b : ℕ) → a′ ≤ a → Between D a l b → Between D a′ l b
 unfolding Between
@@ -49,19 +49,19 @@ between-earlier D a a′ (c ∷ l) b h (p, f, k) = (p, omega arith, k)
 pub between-append : (D a : ℕ) (l : List ℕ) (b : ℕ) (m : List ℕ) (e : ℕ) → Between D a l b → Between D b m e → Between D a (l ++ m) e
 unfolding Between
 between-append D a [] b m e h k = between-earlier D b a m e h k
-between-append D a (c ∷ l) b m e (p, f, h) k = (p, f, between-append D (start D c + span D c) l b m e h k)
+between-append D a (c ∷ l) b m e (p, f, h) k = (p, f, between-append D (end D c) l b m e h k)
 
 -- its beginning is at or before its end
 pub between-le : (D a : ℕ) (l : List ℕ) (b : ℕ) → Between D a l b → a ≤ b
 unfolding Between
 between-le D a [] b h = h
-between-le D a (c ∷ l) b (p, f, h) = omega (arith, between-le D (start D c + span D c) l b h)
+between-le D a (c ∷ l) b (p, f, h) = omega (arith, between-le D (end D c) l b h)
 
 pub between-after : (D a : ℕ) (l : List ℕ) (b : ℕ) → Between D a l b → (v : ℕ) → b ≤ v → black D l v ≡ false
 unfolding Between black
 between-after D a [] b h v k = refl
 between-after D a (c ∷ l) b (p, f, h) v k =
-    black-past D c l v (after-cell D c v (omega (arith, between-le D (start D c + span D c) l b h))) ∙ between-after D (start D c + span D c) l b h v k
+    black-past D c l v (after-cell D c v (omega (arith, between-le D (end D c) l b h))) ∙ between-after D (end D c) l b h v k
 
 pub black-append : (D : ℕ) (l m : List ℕ) (v : ℕ) → black D (l ++ m) v ≡ (black D l v || black D m v)
 unfolding black

@@ -5,24 +5,25 @@ use mathlib.Core.Logic.{inl, inr}
 use mathlib.Core.List.{List, [], _∷_}
 use Prim.Native.Nat.{ℕ, zero, suc, _≤_, _<_}
 use native.Mathlib.Omega.{arith}
-use lib.Dec.{lit<, lit≤}
+use lib.Dec.{lit<, lit≤, eqb, eqb→eq}
 use lib.IntN.{pos, negsuc}
 use lib.ListN.{length, getD}
 use Rattle.cells.specs.Answer.{answer, given}
-use Rattle.cells.specs.Cell.{topBit, level, proper, index, side, start, span, holds}
-use Rattle.cells.specs.Place.{along, corner, number}
+use Rattle.cells.specs.Cell.{topBit, level, proper, index, side, start, span, holds, end}
+use Rattle.cells.specs.Place.{axes, along, corner, number}
 use Rattle.cells.specs.Neighbour.{isStep, isNone, isDirection, Neighbour, NeighbourOf}
 use Rattle.cells.specs.declared.Answer.{Answer}
 use Rattle.cells.proofs.Bools.{clash}
 use Rattle.cells.proofs.Decisions.{passes}
+use Rattle.cells.proofs.Places.{each-axis}
+use Rattle.cells.proofs.Table.{at}
 use Rattle.cells.proofs.NeighbourLaws.{one-neighbour-of}
 use Rattle.cells.proofs.Instances.{neighbour-refuses}
 use Rattle.records.specs.Record.{black}
 use Rattle.records.specs.Count.{count}
-use Rattle.records.specs.Fault.{allFrom, early, eightAt, fault, firstFrom, firstFault}
+use Rattle.records.specs.Fault.{allFrom, early, eightAt, fault, Faulty}
 use Rattle.records.specs.Calls.{inRoot, CheckOf, LookupOf, VolumeOf}
-use Rattle.records.specs.Met.{MetPart, PartOf, MetOf, MetAtOf}
-use Rattle.records.proofs.Fault.{end}
+use Rattle.records.specs.Met.{MetPart, unmet, MeetingOf, MetOf, MetAtOf}
 use Rattle.records.proofs.Part.{part-made}
 use Rattle.records.proofs.CallLaws.{one-check, one-lookup, one-volume}
 use Rattle.records.proofs.MetLaws.{one-met-at, one-met}
@@ -32,12 +33,17 @@ use Rattle.records.proofs.MetLaws.{one-met-at, one-met}
 abbrev one : List ℕ
 one = 559 ∷ []
 
-none-faulty : firstFault 3 one < length one → ⊥
-unfolding topBit level proper early fault firstFrom firstFault
-none-faulty h = omega arith
+-- a leaf alone has no fault
+alone-good : (D c : ℕ) → fault D (c ∷ []) 0 ≡ 0 → (k : ℕ) (a : Answer) → Faulty D (c ∷ []) k a → ⊥
+alone-good D c e k a (zero, f, _) = f .here e
+alone-good D c e k a (suc i, f, _) = absurd (omega (arith, f .below))
+
+none-faulty : (a : Answer) → Faulty 3 one 1 a → ⊥
+unfolding topBit level proper early fault
+none-faulty = alone-good 3 559 refl 1
 
 pub check-holds : CheckOf 3 one (given 1)
-check-holds = inr (passes (λ h. omega arith), inr (passes none-faulty, refl))
+check-holds = inr (passes (λ h. omega arith), inr (none-faulty, refl))
 
 pub check-fails : CheckOf 3 one (given 2) → ⊥
 check-fails h = let e : _≡_ {A = ℕ} 2 1 = ap (λ (r : Answer). r .place) (one-check 3 one _ _ h check-holds) in omega arith
@@ -45,14 +51,14 @@ check-fails h = let e : _≡_ {A = ℕ} 2 1 = ap (λ (r : Answer). r .place) (on
 -- r057 stands at 3, 1, 3
 pub lookup-holds : LookupOf 3 one 3 1 3 (given 1)
 unfolding inRoot number level index span start holds black
-lookup-holds = inr (passes (λ h. omega arith), inr (passes none-faulty, inr (passes (clash refl), refl)))
+lookup-holds = inr (passes (λ h. omega arith), inr (none-faulty, inr (passes (clash refl), refl)))
 
 pub lookup-fails : LookupOf 3 one 3 1 3 (given 0) → ⊥
 lookup-fails h = let e : _≡_ {A = ℕ} 0 1 = ap (λ (r : Answer). r .place) (one-lookup 3 one 3 1 3 _ _ h lookup-holds) in omega arith
 
 pub volume-holds : VolumeOf 3 one (given 1)
 unfolding level index span start holds black count
-volume-holds = inr (passes (λ h. omega arith), inr (passes none-faulty, refl))
+volume-holds = inr (passes (λ h. omega arith), inr (none-faulty, refl))
 
 pub volume-fails : VolumeOf 3 one (given 47) → ⊥
 volume-fails h = let e : _≡_ {A = ℕ} 47 1 = ap (λ (r : Answer). r .place) (one-volume 3 one _ _ h volume-holds) in omega arith
@@ -63,8 +69,11 @@ abbrev eight : List ℕ
 eight = 8 ∷ 9 ∷ 10 ∷ 11 ∷ 12 ∷ 13 ∷ 14 ∷ 15 ∷ []
 
 pub check-refuses : CheckOf 1 eight (answer 4 7 1)
-unfolding topBit level proper index span start early allFrom eightAt fault firstFrom firstFault
-check-refuses = inr (passes (λ h. omega arith), inl (_, (lit< tt, refl), refl))
+unfolding topBit level proper index span start early allFrom eightAt fault
+check-refuses = inr (passes (λ h. omega arith), inl (_, (7, record { below = lit< tt; here = λ e. omega arith; before = before }, refl), refl))
+  where
+    before : (j : ℕ) → j < 7 → (fault 1 eight j ≡ 0 → ⊥) → ⊥
+    before j h bad = bad (eqb→eq _ _ (at (λ i x. eqb (fault 1 eight i) 0) (8 ∷ 9 ∷ 10 ∷ 11 ∷ 12 ∷ 13 ∷ 14 ∷ []) tt j h))
 
 pub check-takes-none : CheckOf 1 eight (given 8) → ⊥
 check-takes-none h = let e : _≡_ {A = ℕ} 0 4 = ap (λ (r : Answer). r .number) (one-check 1 eight _ _ h check-refuses) in omega arith
@@ -74,13 +83,15 @@ check-takes-none h = let e : _≡_ {A = ℕ} 0 4 = ap (λ (r : Answer). r .numbe
 abbrev two : List ℕ
 two = 8 ∷ 10 ∷ []
 
-sound : firstFault 2 two < length two → ⊥
-unfolding topBit level proper index span start early fault firstFrom firstFault
-sound h = omega arith
+sound : (a : Answer) → Faulty 2 two 1 a → ⊥
+unfolding topBit level proper index span start early fault
+sound a (zero, f, _) = f .here refl
+sound a (suc zero, f, _) = f .here refl
+sound a (suc (suc i), f, _) = absurd (omega (arith, f .below))
 
-north : Neighbour 2 67 (pos 0) (pos 1) (pos 0) 81
+north : Neighbour 2 67 (axes (pos 0) (pos 1) (pos 0)) 81
 unfolding topBit level proper along index side corner
-north = record { is-proper = refl; same-level = refl; x = refl; y = refl; z = refl }
+north = record { is-proper = refl; same-level = refl; each = each-axis _ refl refl refl }
 
 r0-before : end 2 8 ≤ start 2 81
 unfolding level index span start
@@ -102,40 +113,38 @@ bigger = part-made 2 two 81 1 1 (lit≤ tt) before (λ i a b. absurd (omega arit
     inside (suc zero) a b = r2-meets
     inside (suc (suc i)) a b = absurd (omega arith)
 
-met-part : PartOf 2 two 67 (pos 0) (pos 1) (pos 0) (1, 1)
+meeting : MeetingOf 2 two 67 (axes (pos 0) (pos 1) (pos 0)) (record { answer = given 1; at = 1; n = 1 })
 unfolding topBit level proper isStep isNone isDirection
-met-part =
-    inr (passes (λ h. omega arith), inr (passes sound, inr (passes (clash refl), inr (passes (clash refl), inr (passes (λ none. none 81 north), (81, north, bigger))))))
+meeting =
+    inr (passes (λ h. omega arith), inr (sound, inr (passes (clash refl), inr (passes (clash refl), inr (passes (λ none. none 81 north), (81, north, bigger, refl))))))
 
-pub met-holds : MetOf 2 two (5, 0) 67 (pos 0) (pos 1) (pos 0) (10 ∷ []) (5, 4)
-met-holds = record { at = 1; n = 1; part = met-part; codes = refl; memory = refl; begins = refl }
+pub met-holds : MetOf 2 two (5, 0) 67 (axes (pos 0) (pos 1) (pos 0)) (10 ∷ []) (5, 4)
+met-holds = record { meeting = _; found = meeting; codes = refl; memory = refl; begins = refl }
 
-pub met-fails : MetOf 2 two (5, 0) 67 (pos 0) (pos 1) (pos 0) [] (5, 0) → ⊥
-met-fails h = let e : _≡_ {A = ℕ} 0 1 = ap length (one-met 2 two 67 (pos 0) (pos 1) (pos 0) (5, 0) [] (10 ∷ []) (5, 0) (5, 4) h met-holds .0) in omega arith
+pub met-fails : MetOf 2 two (5, 0) 67 (axes (pos 0) (pos 1) (pos 0)) [] (5, 0) → ⊥
+met-fails h = let e : _≡_ {A = ℕ} 0 1 = ap length (one-met 2 two 67 (axes (pos 0) (pos 1) (pos 0)) (5, 0) [] (10 ∷ []) (5, 0) (5, 4) h met-holds .0) in omega arith
 
-pub met-at-holds : MetAtOf 2 two 67 (pos 0) (pos 1) (pos 0) (given 1)
-unfolding topBit level proper isStep isNone isDirection
-met-at-holds =
-    inr (passes (λ h. omega arith), inr (passes sound, inr (passes (clash refl), inr (passes (clash refl), inr (passes (λ none. none 81 north), (81, 1, 1, north, bigger, refl))))))
+pub met-at-holds : MetAtOf 2 two 67 (axes (pos 0) (pos 1) (pos 0)) (given 1)
+met-at-holds = (_, meeting, refl)
 
-pub met-at-fails : MetAtOf 2 two 67 (pos 0) (pos 1) (pos 0) (given 0) → ⊥
-met-at-fails h = let e : _≡_ {A = ℕ} 0 1 = ap (λ (r : Answer). r .place) (one-met-at 2 two 67 (pos 0) (pos 1) (pos 0) _ _ h met-at-holds) in omega arith
+pub met-at-fails : MetAtOf 2 two 67 (axes (pos 0) (pos 1) (pos 0)) (given 0) → ⊥
+met-at-fails h = let e : _≡_ {A = ℕ} 0 1 = ap (λ (r : Answer). r .place) (one-met-at 2 two 67 (axes (pos 0) (pos 1) (pos 0)) _ _ h met-at-holds) in omega arith
 
 -- ---- depth 1, [r1], west of r0 is outside the root: the empty part at the list's beginning
 
 abbrev r1 : List ℕ
 r1 = 9 ∷ []
 
-outside : (m : ℕ) → Neighbour 1 8 (negsuc 0) (pos 0) (pos 0) m → ⊥
+outside : (m : ℕ) → Neighbour 1 8 (axes (negsuc 0) (pos 0) (pos 0)) m → ⊥
 unfolding topBit level proper isStep isNone isDirection
 outside m n =
-    let given-m : NeighbourOf 1 8 (negsuc 0) (pos 0) (pos 0) (given m) = inr (passes (λ h. omega arith), inr (passes (clash refl), inr (passes (clash refl), inr (passes (λ none. none m n), (m, n, refl))))) in
-    let e : _≡_ {A = ℕ} 0 7 = ap (λ (r : Answer). r .number) (one-neighbour-of 1 8 (negsuc 0) (pos 0) (pos 0) _ _ given-m neighbour-refuses) in
+    let given-m : NeighbourOf 1 8 (axes (negsuc 0) (pos 0) (pos 0)) (given m) = inr (passes (λ h. omega arith), inr (passes (clash refl), inr (passes (clash refl), inr (passes (λ none. none m n), (m, n, refl))))) in
+    let e : _≡_ {A = ℕ} 0 7 = ap (λ (r : Answer). r .number) (one-neighbour-of 1 8 (axes (negsuc 0) (pos 0) (pos 0)) _ _ given-m neighbour-refuses) in
     omega arith
 
-pub met-refuses : MetOf 1 r1 (5, 8) 8 (negsuc 0) (pos 0) (pos 0) [] (5, 8)
-unfolding topBit level proper isStep isNone isDirection early fault firstFrom firstFault
-met-refuses = record { at = 0; n = 0; part = refused; codes = refl; memory = refl; begins = refl }
+pub met-refuses : MetOf 1 r1 (5, 8) 8 (axes (negsuc 0) (pos 0) (pos 0)) [] (5, 8)
+unfolding topBit level proper isStep isNone isDirection early fault
+met-refuses = record { meeting = unmet (answer 7 0 0); found = refused; codes = refl; memory = refl; begins = refl }
   where
-    refused : PartOf 1 r1 8 (negsuc 0) (pos 0) (pos 0) (0, 0)
-    refused = inr (passes (λ h. omega arith), inr (passes (λ h. omega arith), inr (passes (clash refl), inr (passes (clash refl), inl (_, (outside, refl), refl)))))
+    refused : MeetingOf 1 r1 8 (axes (negsuc 0) (pos 0) (pos 0)) (unmet (answer 7 0 0))
+    refused = inr (passes (λ h. omega arith), inr (alone-good 1 9 refl 1, inr (passes (clash refl), inr (passes (clash refl), inl (_, (outside, refl), refl)))))

@@ -14,7 +14,7 @@ pub mod Rows
 pub mod Walks
 -- counts of voxels; the volume
 pub mod Counting
-pub mod Volume
+pub mod Volumes
 -- the leaves that meet a cell stand together; what the search finds
 pub mod Part
 pub mod Search

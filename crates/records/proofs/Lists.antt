@@ -8,7 +8,7 @@ use native.Mathlib.Omega.{arith}
 use lib.Dec.{leb, ltb}
 use lib.ListN.{length}
 use borrow.Author.Tests.{leb-true, ltb-true, le-leb, lt-ltb}
-use Rattle.cells.specs.Cell.{proper, start, span, holds}
+use Rattle.cells.specs.Cell.{proper, start, span, end, holds}
 use Rattle.records.specs.Record.{black, Ordered, Condensed}
 use Rattle.cells.proofs.Power.{le-or-lt}
 use Rattle.cells.proofs.Bools.{both-true, refuted}
@@ -16,18 +16,18 @@ use Rattle.cells.proofs.Cells.{span-pos, within}
 
 -- ---- one leaf
 
-pub holds-true : (D c v : ℕ) → holds D c v ≡ true → (start D c ≤ v) × (v < start D c + span D c)
+pub holds-true : (D c v : ℕ) → holds D c v ≡ true → (start D c ≤ v) × (v < end D c)
 unfolding holds
-holds-true D c v e = let t = both-true (leb (start D c) v) (ltb v (start D c + span D c)) e in (leb-true _ _ (t .0), ltb-true _ _ (t .1))
+holds-true D c v e = let t = both-true (leb (start D c) v) (ltb v (end D c)) e in (leb-true _ _ (t .0), ltb-true _ _ (t .1))
 
-pub held : (D c v : ℕ) → start D c ≤ v → v < start D c + span D c → holds D c v ≡ true
+pub held : (D c v : ℕ) → start D c ≤ v → v < end D c → holds D c v ≡ true
 unfolding holds
 held D c v h k = rw (le-leb _ _ h, lt-ltb _ _ k)
 
 pub before-cell : (D c v : ℕ) → v < start D c → holds D c v ≡ false
 before-cell D c v h = refuted (holds D c v) (λ e. let t = holds-true D c v e in omega arith)
 
-pub after-cell : (D c v : ℕ) → start D c + span D c ≤ v → holds D c v ≡ false
+pub after-cell : (D c v : ℕ) → end D c ≤ v → holds D c v ≡ false
 after-cell D c v h = refuted (holds D c v) (λ e. let t = holds-true D c v e in omega arith)
 
 -- ---- a list
@@ -45,21 +45,21 @@ pub black-before : (D from : ℕ) (l : List ℕ) → Ordered D from l → (v : �
 unfolding black Ordered
 black-before D from [] o v h = refl
 black-before D from (c ∷ l) (p, f, o) v h =
-    black-past D c l v (before-cell D c v (omega arith)) ∙ black-before D (start D c + span D c) l o v (omega arith)
+    black-past D c l v (before-cell D c v (omega arith)) ∙ black-before D (end D c) l o v (omega arith)
 
 -- nor beyond the root cube
 pub black-beyond : (D from : ℕ) (l : List ℕ) → Ordered D from l → (v : ℕ) → 8 ^ D ≤ v → black D l v ≡ false
 unfolding black Ordered
 black-beyond D from [] o v h = refl
 black-beyond D from (c ∷ l) (p, f, o) v h =
-    black-past D c l v (after-cell D c v (omega (arith, within D c p))) ∙ black-beyond D (start D c + span D c) l o v h
+    black-past D c l v (after-cell D c v (omega (arith, within D c p))) ∙ black-beyond D (end D c) l o v h
 
 -- every voxel from a up to b is black
 abbrev pub AllBlack : ℕ → List ℕ → ℕ → ℕ → Type 0
 AllBlack D l a b = (v : ℕ) → a ≤ v → v < b → black D l v ≡ true
 
 -- what is black past the first leaf is black in the rest
-pub rest-black : (D c : ℕ) (l : List ℕ) (b : ℕ) → AllBlack D (c ∷ l) (start D c + span D c) b → AllBlack D l (start D c + span D c) b
+pub rest-black : (D c : ℕ) (l : List ℕ) (b : ℕ) → AllBlack D (c ∷ l) (end D c) b → AllBlack D l (end D c) b
 rest-black D c l b h v lo hi = sym (black-past D c l v (after-cell D c v lo)) ∙ h v lo hi
 
 pub condensed-rest : (c : ℕ) (l : List ℕ) → Condensed (c ∷ l) → Condensed l
@@ -80,7 +80,7 @@ first-leaf D s (c ∷ l) (p, f, o) b = go (le-or-lt (start D c) s)
     go : (start D c ≤ s) ⊎ (s < start D c) → Begins D s 1 (c ∷ l)
     go (inl h) = (omega arith, span-pos D c)
     go (inr h) =
-        absurd (true≢false (sym b ∙ black-past D c l s (before-cell D c s h) ∙ black-before D (start D c + span D c) l o s (omega arith)))
+        absurd (true≢false (sym b ∙ black-past D c l s (before-cell D c s h) ∙ black-before D (end D c) l o s (omega arith)))
 
 -- ---- one more leaf
 
@@ -89,18 +89,18 @@ pub ordered-snoc : (D a b : ℕ) (l : List ℕ) (c : ℕ) → Ordered D a l → 
 unfolding Ordered
 ordered-snoc D a b [] c o none p h g = (p, h, tt)
 ordered-snoc D a b (x ∷ l) c (q, f, o) none p h g =
-    (q, f, ordered-snoc D (start D x + span D x) b l c o (λ v k. sym (black-past D x l v (clear v k)) ∙ none v k) p (omega (arith, ends)) g)
+    (q, f, ordered-snoc D (end D x) b l c o (λ v k. sym (black-past D x l v (clear v k)) ∙ none v k) p (omega (arith, ends)) g)
   where
     clear : (v : ℕ) → b ≤ v → holds D x v ≡ false
     clear v k = refuted (holds D x v) (λ e. true≢false (sym (black-held D x l v e) ∙ none v k))
 
-    ends : start D x + span D x ≤ b
-    ends = go (le-or-lt (start D x + span D x) b)
+    ends : end D x ≤ b
+    ends = go (le-or-lt (end D x) b)
       where
         last : ℕ
-        last = start D x + span D x - 1
+        last = end D x - 1
 
-        go : (start D x + span D x ≤ b) ⊎ (b < start D x + span D x) → start D x + span D x ≤ b
+        go : (end D x ≤ b) ⊎ (b < end D x) → end D x ≤ b
         go (inl k) = k
         go (inr k) = absurd (true≢false (sym (held D x last (omega (arith, span-pos D x)) (omega (arith, span-pos D x))) ∙ clear last (omega arith)))
 
@@ -110,4 +110,4 @@ ordered-snoc D a b (x ∷ l) c (q, f, o) none p h g =
 pub few-ordered : (D from : ℕ) (l : List ℕ) → from ≤ 8 ^ D → Ordered D from l → from + length l ≤ 8 ^ D
 unfolding Ordered
 few-ordered D from [] h o = omega arith
-few-ordered D from (c ∷ l) h (p, f, o) = omega (arith, span-pos D c, few-ordered D (start D c + span D c) l (within D c p) o)
+few-ordered D from (c ∷ l) h (p, f, o) = omega (arith, span-pos D c, few-ordered D (end D c) l (within D c p) o)

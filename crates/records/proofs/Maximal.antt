@@ -7,7 +7,7 @@ use mathlib.Core.List.{List, [], _∷_, List·Memᴰ, List·Memᴰ·head, List·
 use Prim.Native.Nat.{ℕ, zero, suc, _+_, _-_, _*_, _^_, _≤_, _<_}
 use native.Mathlib.Nat.{le-refl, le-of-eq, le-antisymm, eq-or-lt-of-le, eq-of-mul-eq-mul-right, le-of-mul-le-mul-right}
 use native.Mathlib.Omega.{arith}
-use Rattle.cells.specs.Cell.{proper, start, span}
+use Rattle.cells.specs.Cell.{proper, start, span, end}
 use Rattle.records.specs.Record.{black, Ordered, Condensed, Good}
 use Rattle.cells.proofs.Power.{le-or-lt, pow8-pos, pow8-suc, pow8-lt-inv, pow8-le-inv, pow8-split}
 use Rattle.cells.proofs.Cells.{cell, cell-of, same-cell, span-pos, within}
@@ -57,8 +57,8 @@ module _ (D n k q : ℕ) (ih : Claim D n) (dep : suc k + n ≡ D) (ind : q < 8 ^
   run (suc r) j s (c ∷ l) e pos es fit (p, f, o) con b i lo hi =
       let (at, big) = ih s (8 * q + j) (c ∷ l) es (omega arith) (p, f, o) con (λ v x y. b v x (omega arith)) in
       let exact : span D c ≡ 8 ^ n = exact-here at big (le-or-lt (8 ^ suc n) (span D c)) in
-      let after : AllBlack D l (start D c + span D c) (start D c + span D c + r * 8 ^ n) = rest-black D c l _ (λ v x y. b v (omega arith) (omega arith)) in
-      go at exact (λ h. run r (suc j) (start D c + span D c) l (omega arith) (omega arith) (omega arith) (omega arith) o (condensed-rest c l con) after i h hi)
+      let after : AllBlack D l (end D c) (end D c + r * 8 ^ n) = rest-black D c l _ (λ v x y. b v (omega arith) (omega arith)) in
+      go at exact (λ h. run r (suc j) (end D c) l (omega arith) (omega arith) (omega arith) (omega arith) o (condensed-rest c l con) after i h hi)
       (eq-or-lt-of-le lo)
     where
       exact-here : start D c ≡ s → 8 ^ n ≤ span D c → (8 ^ suc n ≤ span D c) ⊎ (span D c < 8 ^ suc n) → span D c ≡ 8 ^ n
@@ -78,14 +78,14 @@ module _ (D n k q : ℕ) (ih : Claim D n) (dep : suc k + n ≡ D) (ind : q < 8 ^
       exact : span D c ≡ 8 ^ n
       exact = exact-span D c n p big (omega (arith, pow8-suc n))
 
-      after : AllBlack D l (start D c + span D c) (start D c + span D c + 7 * 8 ^ n)
+      after : AllBlack D l (end D c) (end D c + 7 * 8 ^ n)
       after = rest-black D c l _ (λ v x y. b v (omega arith) (omega (arith, exact)))
 
       each : (i : ℕ) → i < 8 → List·Memᴰ (8 * (8 ^ k + q) + i) (c ∷ l)
       each zero h = List·Memᴰ·head (the-child c 0 h p (at ∙ omega arith) exact)
       each (suc i) h =
           List·Memᴰ·tail
-          (run 7 1 (start D c + span D c) l refl (omega arith) (omega (arith, exact)) (omega (arith, exact)) o (condensed-rest c l con) after (suc i) (omega arith) h)
+          (run 7 1 (end D c) l refl (omega arith) (omega (arith, exact)) (omega (arith, exact)) o (condensed-rest c l con) after (suc i) (omega arith) h)
 
 step : (D n : ℕ) → Claim D n → Claim D (suc n)
 step D n ih s q [] es fit o con b = first-leaf D s [] o (b s (le-refl s) (omega (arith, pow8-pos (suc n))))
@@ -114,7 +114,7 @@ maximal D (suc n) s q l es fit o con b = step D n (maximal D n) s q l es fit o c
 -- ---- two good lists with the same black voxels are one list
 
 -- a leaf is black
-pub leaf-black : (D c : ℕ) (l : List ℕ) → AllBlack D (c ∷ l) (start D c) (start D c + span D c)
+pub leaf-black : (D c : ℕ) (l : List ℕ) → AllBlack D (c ∷ l) (start D c) (end D c)
 leaf-black D c l v lo hi = black-held D c l v (held D c v lo hi)
 
 -- no voxel before the first leaf is black
@@ -128,7 +128,7 @@ first-least D from d m (p, f, o) v b = go (le-or-lt (start D d) v)
 
 -- a proper cell at the first leaf's start, all of it black, is no bigger than that leaf
 pub first-greatest : (D from c d : ℕ) (m : List ℕ) → proper D c ≡ true → Ordered D from (d ∷ m) → Condensed (d ∷ m) → start D c ≡ start D d
-    → AllBlack D (d ∷ m) (start D c) (start D c + span D c) → span D c ≤ span D d
+    → AllBlack D (d ∷ m) (start D c) (end D c) → span D c ≤ span D d
 unfolding Ordered
 first-greatest D from c d m p (r, f, o) con e b =
     let t = cell D c p in
@@ -142,12 +142,12 @@ same-list D from [] [] o o′ con con′ b = refl
 same-list D from [] (d ∷ m) o o′ con con′ b = absurd (false≢true (b (start D d) ∙ leaf-black D d m (start D d) (le-refl _) (omega (arith, span-pos D d))))
 same-list D from (c ∷ l) [] o o′ con con′ b = absurd (false≢true (sym (b (start D c)) ∙ leaf-black D c l (start D c) (le-refl _) (omega (arith, span-pos D c))))
 same-list D from (c ∷ l) (d ∷ m) (p, f, o) (p′, f′, o′) con con′ b =
-    ap₂ _∷_ same (same-list D (start D c + span D c) l m o (subst (λ (x : ℕ). Ordered D (start D x + span D x) m) (sym same) o′) (condensed-rest c l con) (condensed-rest d m con′) rest)
+    ap₂ _∷_ same (same-list D (end D c) l m o (subst (λ (x : ℕ). Ordered D (end D x) m) (sym same) o′) (condensed-rest c l con) (condensed-rest d m con′) rest)
   where
-    black-r : AllBlack D (d ∷ m) (start D c) (start D c + span D c)
+    black-r : AllBlack D (d ∷ m) (start D c) (end D c)
     black-r v lo hi = sym (b v) ∙ leaf-black D c l v lo hi
 
-    black-l : AllBlack D (c ∷ l) (start D d) (start D d + span D d)
+    black-l : AllBlack D (c ∷ l) (start D d) (end D d)
     black-l v lo hi = b v ∙ leaf-black D d m v lo hi
 
     starts : start D c ≡ start D d
@@ -166,9 +166,9 @@ same-list D from (c ∷ l) (d ∷ m) (p, f, o) (p′, f′, o′) con con′ b =
     same = same-cell D c d p p′ starts spans
 
     rest : (v : ℕ) → black D l v ≡ black D m v
-    rest v = go (le-or-lt (start D c + span D c) v)
+    rest v = go (le-or-lt (end D c) v)
       where
-        go : (start D c + span D c ≤ v) ⊎ (v < start D c + span D c) → black D l v ≡ black D m v
+        go : (end D c ≤ v) ⊎ (v < end D c) → black D l v ≡ black D m v
         go (inl h) = sym (black-past D c l v (after-cell D c v h)) ∙ b v ∙ black-past D d m v (after-cell D d v (omega (arith, starts, spans)))
         go (inr h) = black-before D _ l o v h ∙ sym (black-before D _ m o′ v (omega (arith, starts, spans)))
 

@@ -1,65 +1,42 @@
--- The laws of the calls `met` and `met_at`: both follow from what they share, and no second answer fits. Assumes nothing.
-use mathlib.Core.Path.{_≡_, refl, sym, ap, ap₂, _∙_}
+-- The laws of the calls `met` and `met_at`, two views of one meeting: its part lies in the list, and no second answer fits. Assumes nothing.
+use mathlib.Core.Path.{_≡_, sym, ap, ap₂, _∙_}
 use mathlib.Core.List.{List}
 use Prim.Native.Nat.{ℕ, _+_, _*_, _≤_, zero-le}
 use lib.IntN.{ℤ}
 use lib.ListN.{length, take, drop}
-use Rattle.cells.specs.Answer.{given, alone}
+use Rattle.cells.specs.Answer.{given}
 use Rattle.cells.specs.Neighbour.{Neighbour}
 use Rattle.cells.specs.declared.Answer.{Answer}
-use Rattle.cells.proofs.Decisions.{One, Ones, one-refuses, one-decided, decided-map, decided-all}
+use Rattle.cells.proofs.Decisions.{One, one-refuses, one-refuses-first, one-decided, decided-all}
 use Rattle.cells.proofs.NeighbourLaws.{one-neighbour}
-use Rattle.records.specs.Met.{MetPart, metTests, atBeginning, PartOf, MetOf, MetAtOf}
-use Rattle.records.specs.Meeting.{unmet, Together, MeetingOf}
-use Rattle.records.specs.declared.met.Meeting.{Meeting}
+use Rattle.records.specs.Met.{MetPart, metTests, unmet, MeetingOf, MetOf, MetAtOf}
+use Rattle.records.specs.declared.meetings.Meeting.{Meeting}
 use Rattle.records.proofs.Part.{one-part}
 
-module _ (D : ℕ) (l : List ℕ) (c : ℕ) (dx dy dz : ℤ) where
-  -- what each gives where no test refuses
-  abbrev Shared : Meeting → Type 0
-  Shared r = (m : ℕ) × Neighbour D c dx dy dz m × Together D l m r
-
-  abbrev Told : Answer → Type 0
-  Told r = (m : ℕ) × (at : ℕ) × (n : ℕ) × Neighbour D c dx dy dz m × MetPart D l m at n × (r ≡ given at)
-
-  abbrev Placed : ℕ × ℕ → Type 0
-  Placed t = (m : ℕ) × Neighbour D c dx dy dz m × MetPart D l m (t .0) (t .1)
-
-  -- ---- from what they share
-
-  pub answer-of : (r : Meeting) → MeetingOf D l c dx dy dz r → MetAtOf D l c dx dy dz (r .answer)
-  answer-of r d =
-      decided-map (λ (t : Meeting). t .answer) unmet alone (metTests D l c dx dy dz) Shared Told r (λ a. refl) (λ t. (t .0, r .at, r .n, t .1, t .2 .part, t .2 .tells)) d
-
-  pub part-of : (r : Meeting) → MeetingOf D l c dx dy dz r → PartOf D l c dx dy dz (r .at, r .n)
-  part-of r d =
-      decided-map (λ (t : Meeting). (t .at, t .n)) unmet atBeginning (metTests D l c dx dy dz) Shared Placed r (λ a. refl) (λ t. (t .0, t .1, t .2 .part)) d
+module _ (D : ℕ) (l : List ℕ) (c : ℕ) (d : ℕ → ℤ) where
+  -- what is found where no test refuses
+  abbrev pub Met : Meeting → Type 0
+  Met r = (m : ℕ) × Neighbour D c d m × MetPart D l m (r .at) (r .n) × (r .answer ≡ given (r .at))
 
   -- the part lies in the list
-  pub within-list : (at n : ℕ) → PartOf D l c dx dy dz (at, n) → at + n ≤ length l
-  within-list at n d =
-      decided-all atBeginning (metTests D l c dx dy dz) Placed (λ (t : ℕ × ℕ). t .0 + t .1 ≤ length l) (at, n) (λ a. zero-le) (λ t. t .2 .within) d
+  pub within-list : (r : Meeting) → MeetingOf D l c d r → r .at + r .n ≤ length l
+  within-list r x = decided-all unmet (metTests D l c d) Met (λ (t : Meeting). t .at + t .n ≤ length l) r (λ a. zero-le) (λ t. t .2 .within) x
 
-  -- ---- no second answer
+  one-met-of : One Met
+  one-met-of r s (m, p, x, e) (k, q, y, f) =
+      let (at, n) = one-part D l m (r .at) (r .n) (s .at) (s .n) x (rw (one-neighbour D c d m k p q) y) in
+      ap (λ (a : Answer). record { answer = a; at = r .at; n = r .n }) (e ∙ ap given at ∙ sym f) ∙ ap₂ (λ (x y : ℕ). record { answer = s .answer; at = x; n = y }) at n
 
-  of-tests : Ones (metTests D l c dx dy dz)
-  of-tests = (one-refuses, (one-refuses, (one-refuses, (one-refuses, (one-refuses, tt)))))
+  pub one-meeting : One (MeetingOf D l c d)
+  one-meeting = one-decided unmet (metTests D l c d) Met (one-refuses, (one-refuses-first, (one-refuses, (one-refuses, (one-refuses, tt))))) one-met-of
 
-  same-part : (m k at n at′ n′ : ℕ) → Neighbour D c dx dy dz m → Neighbour D c dx dy dz k → MetPart D l m at n → MetPart D l k at′ n′ → (at ≡ at′) × (n ≡ n′)
-  same-part m k at n at′ n′ p q x y = one-part D l m at n at′ n′ x (rw (one-neighbour D c dx dy dz m k p q) y)
-
-  pub one-part-of : One (PartOf D l c dx dy dz)
-  one-part-of = one-decided atBeginning (metTests D l c dx dy dz) Placed of-tests (λ r s (m, p, x) (k, q, y). let t = same-part m k (r .0) (r .1) (s .0) (s .1) p q x y in ap₂ (λ (a b : ℕ). (a, b)) (t .0) (t .1))
-
-  pub one-met-at : One (MetAtOf D l c dx dy dz)
-  one-met-at =
-      one-decided alone (metTests D l c dx dy dz) Told of-tests
-      (λ r s (m, at, n, p, x, e) (k, at′, n′, q, y, f). e ∙ ap given (same-part m k at n at′ n′ p q x y .0) ∙ sym f)
+  pub one-met-at : One (MetAtOf D l c d)
+  one-met-at r s (t, x, e) (u, y, f) = e ∙ ap (λ (m : Meeting). m .answer) (one-meeting t u x y) ∙ sym f
 
   -- the part's content, and where it begins in memory; its length is its content's
-  pub one-met : (p : ℕ × ℕ) (r s : List ℕ) (a b : ℕ × ℕ) → MetOf D l p c dx dy dz r a → MetOf D l p c dx dy dz s b → (r ≡ s) × (a ≡ b)
+  pub one-met : (p : ℕ × ℕ) (r s : List ℕ) (a b : ℕ × ℕ) → MetOf D l p c d r a → MetOf D l p c d s b → (r ≡ s) × (a ≡ b)
   one-met p r s a b x y =
-      let e : _≡_ {A = ℕ × ℕ} (x .at, x .n) (y .at, y .n) = one-part-of (x .at, x .n) (y .at, y .n) (x .part) (y .part) in (
-        x .codes ∙ ap (λ (t : ℕ × ℕ). take (t .1) (drop (t .0) l)) e ∙ sym (y .codes),
-        ap₂ (λ (u v : ℕ). (u, v)) (x .memory ∙ sym (y .memory)) (x .begins ∙ ap (λ (t : ℕ × ℕ). p .1 + t .0 * 4) e ∙ sym (y .begins)),
+      let e : x .meeting ≡ y .meeting = one-meeting (x .meeting) (y .meeting) (x .found) (y .found) in (
+        x .codes ∙ ap (λ (t : Meeting). take (t .n) (drop (t .at) l)) e ∙ sym (y .codes),
+        ap₂ (λ (u v : ℕ). (u, v)) (x .memory ∙ sym (y .memory)) (x .begins ∙ ap (λ (t : Meeting). p .1 + t .at * 4) e ∙ sym (y .begins)),
       )

@@ -8,7 +8,7 @@ use native.Mathlib.Nat.{le-refl}
 use native.Mathlib.Omega.{arith}
 use lib.ListN.{length, length-append}
 use Rattle.cells.specs.Answer.{deepest}
-use Rattle.cells.specs.Cell.{start, span}
+use Rattle.cells.specs.Cell.{end}
 use Rattle.records.specs.Record.{black, Good}
 use Rattle.records.specs.Fault.{allFrom}
 use Rattle.cells.proofs.Power.{le-or-lt, pow8-pos, pow8-suc}
@@ -48,7 +48,7 @@ unfolding Between
 white-none D P c s [] t w = refl
 white-none D P c s (x ∷ l) t w =
     let (p, f, b) = t .between in
-    let e = between-le D (start D x + span D x) l _ b in
+    let e = between-le D (end D x) l _ b in
     let u = span-pos D x in
     absurd (false≢true (sym w ∙ sym (t .colour s (le-refl s) (omega arith)) ∙ black-held D x l s (held D x s (omega arith) (omega arith))))
 

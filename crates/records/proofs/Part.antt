@@ -6,13 +6,13 @@ use Prim.Native.Nat.{ℕ, _+_, _-_, _≤_, _<_, max}
 use native.Mathlib.Nat.{le-refl, le-antisymm}
 use native.Mathlib.Omega.{arith}
 use lib.ListN.{length, getD}
-use Rattle.cells.specs.Cell.{start}
+use Rattle.cells.specs.Cell.{start, end}
 use Rattle.records.specs.Record.{Ordered}
 use Rattle.records.specs.Met.{Meets, MetPart}
 use Rattle.cells.proofs.Power.{le-or-lt}
 use Rattle.cells.proofs.Cells.{span-pos}
 use Rattle.records.proofs.Lists.{holds-true, held}
-use Rattle.records.proofs.Fault.{end, in-order}
+use Rattle.records.proofs.Fault.{in-order}
 
 -- two cells meet just where neither ends before the other begins
 pub meets-iff : (D c m : ℕ) → Meets D c m ↔ ((start D m < end D c) × (start D c < end D m))

@@ -8,7 +8,7 @@ use native.Mathlib.Omega.{arith}
 use lib.Dec.{ltb}
 use lib.ListN.{length, getD}
 use borrow.Author.Tests.{ltb-true, lt-ltb, le-ltb}
-use Rattle.cells.specs.Cell.{proper, start}
+use Rattle.cells.specs.Cell.{proper, start, end}
 use Rattle.records.specs.Record.{black, Ordered}
 use Rattle.records.specs.Inner.{Starts, reaches}
 use Rattle.records.specs.Met.{MetPart}
@@ -17,15 +17,15 @@ use Rattle.cells.proofs.Bools.{both-true, refuted, clash}
 use Rattle.cells.proofs.Cells.{span-pos}
 use Rattle.records.proofs.Lists.{holds-true, held}
 use Rattle.records.proofs.Leaves.{member, member-black, leaf-of}
-use Rattle.records.proofs.Fault.{end, member-at, index-of, in-order}
+use Rattle.records.proofs.Fault.{member-at, index-of, in-order}
 use Rattle.records.proofs.Part.{ends-rise, part-made}
 
 pub proper-at : (D : ℕ) (l : List ℕ) → Ordered D 0 l → (i : ℕ) → i < length l → proper D (getD l i 0) ≡ true
 proper-at D l o i h = member D 0 l (getD l i 0) o (member-at l i h) .0
 
 -- the same search, by equal numbers
-pub starts-same : {D : ℕ} {l : List ℕ} {v w lo hi n r : ℕ} → v ≡ w → hi ≡ n → Starts D l v lo hi r → Starts D l w lo n r
-starts-same e f s = rw (← e, ← f) s
+pub starts-same : {D : ℕ} {l : List ℕ} {v w lo hi r : ℕ} → v ≡ w → Starts D l v lo hi r → Starts D l w lo hi r
+starts-same e s = rw (← e) s
 
 -- ---- the test of the leaf before a place
 

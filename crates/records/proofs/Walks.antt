@@ -1,24 +1,27 @@
 -- The walk along a list finds its first fault. Assumes nothing.
-use mathlib.Core.Path.{_≡_, refl, sym, ap, ap₂, _∙_}
+use mathlib.Core.Path.{_≡_, refl, sym, ap, _∙_}
 use mathlib.Core.Bool.{true, false}
 use mathlib.Core.Logic.{_⊎_, ⊎-elim}
 use mathlib.Core.List.{List, [], _∷_}
 use Prim.Native.Nat.{ℕ, zero, suc, _+_, _≤_, _<_, zero-le}
 use native.Mathlib.Nat.{eq-or-lt-of-le, le-of-suc-le-suc}
+use native.Mathlib.Numerals.{add-one}
 use native.Mathlib.Omega.{arith}
 use lib.Dec.{ltb, eqb}
 use lib.ListN.{length, getD}
 use borrow.Author.Tests.{lt-ltb, le-ltb, ne-eqb}
 use Rattle.cells.specs.Answer.{answer}
-use Rattle.cells.specs.Cell.{proper, start, span}
-use Rattle.records.specs.Fault.{early, numbered, fault, firstFault, Faulty}
+use Rattle.cells.specs.declared.Answer.{Answer}
+use Rattle.cells.proofs.Firsts.{first-more}
+use Rattle.cells.specs.Cell.{proper, start, span, end}
+use Rattle.records.specs.Record.{Good}
+use Rattle.records.specs.Fault.{early, numbered, fault, Faulty}
 use Rattle.records.specs.Inner.{volume}
-use Rattle.records.specs.Walk.{lastOf, pastOf, voxels, nextRun, runOf, Walked, Stepped, Found}
+use Rattle.records.specs.Walk.{lastOf, pastOf, voxels, nextRun, runOf, Kept, Walked}
 use Rattle.records.specs.declared.inner.Walk.{Walk}
-use Rattle.records.specs.declared.inner.Verdict.{Verdict}
 use Rattle.cells.proofs.Cells.{within, span-pos}
 use Rattle.records.proofs.Fault.{not-early, faultless-good}
-use Rattle.records.proofs.First.{first-fault-is, first-fault-none}
+use Rattle.records.proofs.First.{good-passes}
 use Rattle.records.proofs.Rows.{next-le, eight-run}
 
 -- ---- the fault at an index, by what is kept
@@ -34,24 +37,33 @@ fault-is D l i = rw (early-past D l i, eight-run l i)
 
 -- ---- the walk's beginning and a step: c is the next code
 
-pub begins : (D : ℕ) (l : List ℕ) (w : Walk) → w .last ≡ 0 → w .past ≡ 0 → w .run ≡ 0 → w .sum ≡ 0 → Walked D l 0 w
+pub begins : (D : ℕ) (l : List ℕ) (w : Walk) → w .number ≡ 0 → w .passed ≡ 0 → w .last ≡ 0 → w .past ≡ 0 → w .run ≡ 0 → w .sum ≡ 0 → Walked D l 0 w
 unfolding lastOf pastOf voxels runOf
-begins D l w a b c d = record {
-  faultless = λ j h. absurd (omega arith);
-  is-last = a;
-  is-past = b;
-  is-run = c;
-  is-sum = d;
-  short = omega arith;
-  few = omega arith;
-  count = zero-le;
-  within = omega arith;
+begins D l w z p a b c d = record {
+  stopped = λ n. absurd (n z);
+  is-number = λ n. absurd (n z);
+  kept = λ _. record {
+    faultless = λ j h. absurd (omega arith);
+    is-passed = p;
+    is-last = a;
+    is-past = b;
+    is-run = c;
+    is-sum = d;
+    short = omega arith;
+    few = omega arith;
+    count = zero-le;
+    within = omega arith;
+  };
 }
+
+-- a walk that has ended stays as it is
+pub stays : (D : ℕ) (l : List ℕ) (i : ℕ) (w : Walk) → Walked D l i w → (w .number ≡ 0 → ⊥) → Walked D l (i + 1) w
+stays D l i w k some = record { stopped = λ n. rw add-one (first-more (k .stopped n)); is-number = k .is-number; kept = λ z. absurd (some z) }
 
 lt-split : (j i : ℕ) → j < suc i → (j ≡ i) ⊎ (j < i)
 lt-split j i h = eq-or-lt-of-le (le-of-suc-le-suc h)
 
-module _ (D : ℕ) (l : List ℕ) (i : ℕ) (w : Walk) (c : ℕ) (k : Walked D l i w) (e : getD l i 0 ≡ c) where
+module _ (D : ℕ) (l : List ℕ) (i : ℕ) (w : Walk) (c : ℕ) (k : Kept D l i w) (e : getD l i 0 ≡ c) where
   next-is : runOf l (suc i) ≡ nextRun (w .last) (w .run) c
   unfolding runOf
   next-is = rw (k .is-last, k .is-run, e)
@@ -70,21 +82,30 @@ module _ (D : ℕ) (l : List ℕ) (i : ℕ) (w : Walk) (c : ℕ) (k : Walked D l
   eighth p h r = rw (by-kept, p, le-ltb (start D c) (w .past) h, r)
 
   -- a fault ends the walk
-  pub stops : (r : Walk) (n : ℕ) → r .number ≡ n → (n ≡ 0 → ⊥) → fault D l i ≡ n → Stepped D l i r
-  stops r n is some f = record { is-number = is ∙ sym f; goes-on = λ z. absurd (some (sym is ∙ z)) }
+  pub stops : (r : Walk) (n : ℕ) → (r .number ≡ n) × (r .passed ≡ w .passed) → (n ≡ 0 → ⊥) → fault D l i ≡ n → Walked D l (i + 1) r
+  stops r n (is, at) some f =
+      let here : r .passed ≡ i = at ∙ k .is-passed in
+      record {
+        stopped = λ _. rw here (record { below = omega arith; here = λ z. some (sym f ∙ z); before = λ j h bad. bad (k .faultless j h) });
+        is-number = λ _. is ∙ sym f ∙ ap (fault D l) (sym here);
+        kept = λ z. absurd (some (sym is ∙ z));
+      }
 
   pub goes : proper D c ≡ true → w .past ≤ start D c → (nextRun (w .last) (w .run) c ≡ 8 → ⊥)
-      → (r : Walk) → r .number ≡ 0 → r .last ≡ c → r .past ≡ start D c + span D c → r .run ≡ nextRun (w .last) (w .run) c → r .sum ≡ w .sum + span D c → Stepped D l i r
+      → (r : Walk) → r .number ≡ 0 → r .passed ≡ w .passed + 1 → r .last ≡ c → r .past ≡ end D c → r .run ≡ nextRun (w .last) (w .run) c → r .sum ≡ w .sum + span D c → Walked D l (i + 1) r
   unfolding lastOf pastOf voxels
-  goes p h some r number last past run sum =
+  goes p h some r number passed last past run sum =
       let none : fault D l i ≡ 0 = rw (by-kept, p, le-ltb (start D c) (w .past) h, ne-eqb (nextRun (w .last) (w .run) c) 8 some) in
       let seven : r .run ≡ 8 → ⊥ = λ x. some (sym run ∙ x) in
-      record {
-        is-number = number ∙ sym none;
-        goes-on = λ z. record {
+      rw add-one
+      (record {
+        stopped = λ n. absurd (n number);
+        is-number = λ n. absurd (n number);
+        kept = λ z. record {
           faultless = λ j b. ⊎-elim (λ (x : j ≡ i). ap (fault D l) x ∙ none) (λ (x : j < i). k .faultless j x) (lt-split j i b);
+          is-passed = omega (arith, k .is-passed);
           is-last = last ∙ sym e;
-          is-past = past ∙ ap (λ (x : ℕ). start D x + span D x) (sym e);
+          is-past = past ∙ ap (end D) (sym e);
           is-run = run ∙ sym next-is;
           is-sum = sum ∙ rw (e, k .is-sum);
           short = omega (arith, next-le (w .last) (w .run) c, k .short, seven);
@@ -92,7 +113,7 @@ module _ (D : ℕ) (l : List ℕ) (i : ℕ) (w : Walk) (c : ℕ) (k : Walked D l
           count = omega (arith, k .count, span-pos D c);
           within = omega (arith, within D c p);
         };
-      }
+      })
 
 -- ---- the voxels
 
@@ -106,42 +127,17 @@ unfolding volume voxels
 voxels-all D [] = refl
 voxels-all D (c ∷ l) = voxels-cons D c l (length l) ∙ ap (λ (n : ℕ). span D c + n) (voxels-all D l)
 
--- ---- the ends of a loop that walks
+-- ---- what a walk along the whole list tells
 
-module _ (D : ℕ) (l : List ℕ) (i : ℕ) (w : Walk) (k : Walked D l i w) where
-  -- at a fault
-  pub found-fault : (r : Walk) → Stepped D l i r → i < length l → (r .number ≡ 0 → ⊥) → (v : Verdict) → v .number ≡ r .number → v .place ≡ i → Found D l v
-  found-fault r s h some v n p =
-      let f : fault D l i ≡ 0 → ⊥ = λ z. some (s .is-number ∙ z) in
-      record {
-        is-place = p ∙ sym (first-fault-is D l i h f (k .faultless));
-        bad = λ x. (omega arith, n ∙ s .is-number ∙ ap (fault D l) (sym p));
-        whole = λ z. absurd (some (sym n ∙ z));
-        is-sum = λ z. absurd (some (sym n ∙ z));
-        few = λ z. absurd (some (sym n ∙ z));
-        good = λ z. absurd (some (sym n ∙ z));
-      }
+module _ (D : ℕ) (l : List ℕ) (w : Walk) (k : Walked D l (length l) w) where
+  pub walked-refuses : (n : ℕ) → (w .number ≡ 0 → ⊥) → Faulty D l n (answer (w .number) (w .passed) n)
+  walked-refuses n some = (w .passed, k .stopped some, ap (λ (x : ℕ). answer x (w .passed) n) (k .is-number some))
 
-  -- and at the list's end
-  pub found-none : i ≡ length l → (v : Verdict) → v .number ≡ 0 → v .place ≡ i → v .sum ≡ w .sum → Found D l v
-  found-none e v n p s =
-      let faultless : (j : ℕ) → j < length l → fault D l j ≡ 0 = λ j h. k .faultless j (omega arith) in
-      record {
-        is-place = p ∙ e ∙ sym (first-fault-none D l faultless);
-        bad = λ x. absurd (x n);
-        whole = λ z. p ∙ e;
-        is-sum = λ z. s ∙ k .is-sum ∙ ap (voxels D l) e ∙ voxels-all D l;
-        few = λ z. omega (arith, k .count, k .within);
-        good = λ z. faultless-good D l faultless;
-      }
+  pub walked-good : w .number ≡ 0 → Good D l
+  walked-good z = faultless-good D l (k .kept z .faultless)
 
--- ---- what it found, as the test of the call's list k says it
+  pub walked-passes : (n : ℕ) → w .number ≡ 0 → (a : Answer) → Faulty D l n a → ⊥
+  walked-passes n z = good-passes D l n (walked-good z)
 
-module _ (D : ℕ) (l : List ℕ) (v : Verdict) (f : Found D l v) where
-  pub found-refuses : (k : ℕ) → (v .number ≡ 0 → ⊥) → Faulty D l k (answer (v .number) (v .place) k)
-  found-refuses k some =
-      let (h, e) = f .bad some in
-      (omega (arith, f .is-place), ap₂ (λ (n p : ℕ). answer n p k) (e ∙ ap (fault D l) (f .is-place)) (f .is-place))
-
-  pub found-passes : v .number ≡ 0 → firstFault D l < length l → ⊥
-  found-passes z h = omega (arith, f .whole z, f .is-place)
+  pub walked-volume : w .number ≡ 0 → w .sum ≡ volume D l
+  walked-volume z = k .kept z .is-sum ∙ voxels-all D l

@@ -1,12 +1,12 @@
 -- What the calls `check`, `lookup` and `volume` answer: document 01, "Lists" and "Numbers a call gives". Definitions only.
 use mathlib.Core.Path.{_≡_}
-use mathlib.Core.Bool.{Bool, false, _&&_}
+use mathlib.Core.Bool.{Bool, false}
 use mathlib.Core.List.{List, [], _∷_}
 use Prim.Native.Nat.{ℕ, _^_}
 use lib.Dec.{ltb}
 use lib.ListN.{length}
-use Rattle.cells.specs.Answer.{answer, given, Test, Decided, alone, refuses, TooDeep}
-use Rattle.cells.specs.Place.{number}
+use Rattle.cells.specs.Answer.{answer, given, Test, Decided, alone, refuses, deepest, TooDeep}
+use Rattle.cells.specs.Place.{axes, allAxes, number}
 use Rattle.cells.specs.declared.Answer.{Answer}
 use Rattle.records.specs.Record.{black}
 use Rattle.records.specs.Count.{bit, count}
@@ -14,20 +14,20 @@ use Rattle.records.specs.Fault.{Faulty}
 
 -- THE CALL check: the number of leaves
 abbrev pub CheckOf : ℕ → List ℕ → Answer → Type 0
-CheckOf D l = Decided alone (TooDeep D ∷ Faulty D l 1 ∷ []) (λ r. r ≡ given (length l))
+CheckOf D l = Decided alone (TooDeep deepest D ∷ Faulty D l 1 ∷ []) (λ r. r ≡ given (length l))
 
--- whether the voxel x, y, z lies in the root
-unfoldable pub inRoot : ℕ → ℕ → ℕ → ℕ → Bool
-inRoot D x y z = ltb x (2 ^ D) && (ltb y (2 ^ D) && ltb z (2 ^ D))
+-- whether the voxel at x lies in the root
+unfoldable pub inRoot : ℕ → (ℕ → ℕ) → Bool
+inRoot D x = allAxes (λ a. ltb (x a) (2 ^ D))
 
 -- number 6: a voxel outside the root
-abbrev pub NoVoxel : ℕ → ℕ → ℕ → ℕ → Test
-NoVoxel D x y z = refuses (answer 6 0 0) (inRoot D x y z ≡ false)
+abbrev pub NoVoxel : ℕ → (ℕ → ℕ) → Test
+NoVoxel D x = refuses (answer 6 0 0) (inRoot D x ≡ false)
 
 -- THE CALL lookup: 1 for a black voxel, 0 for a white one
 abbrev pub LookupOf : ℕ → List ℕ → ℕ → ℕ → ℕ → Answer → Type 0
-LookupOf D l x y z = Decided alone (TooDeep D ∷ Faulty D l 1 ∷ NoVoxel D x y z ∷ []) (λ r. r ≡ given (bit (black D l (number D x y z))))
+LookupOf D l x y z = Decided alone (TooDeep deepest D ∷ Faulty D l 1 ∷ NoVoxel D (axes x y z) ∷ []) (λ r. r ≡ given (bit (black D l (number D x y z))))
 
 -- THE CALL volume: how many voxels are black
 abbrev pub VolumeOf : ℕ → List ℕ → Answer → Type 0
-VolumeOf D l = Decided alone (TooDeep D ∷ Faulty D l 1 ∷ []) (λ r. r ≡ given (count (black D l) (8 ^ D)))
+VolumeOf D l = Decided alone (TooDeep deepest D ∷ Faulty D l 1 ∷ []) (λ r. r ≡ given (count (black D l) (8 ^ D)))

@@ -1,11 +1,12 @@
 -- The faults of a list, index by index, and the first: document 01, "Lists", and numbers 2, 3 and 4 of its table. Definitions only.
-use Prim.Native.Nat.{ℕ, zero, suc, _+_, _-_, _%_, _<_}
+use Prim.Native.Nat.{ℕ, zero, suc, _+_, _-_, _%_}
 use mathlib.Core.List.{List}
-use mathlib.Core.Bool.{Bool, true, false, not, _&&_}
+use mathlib.Core.Path.{_≡_}
+use mathlib.Core.Bool.{Bool, true, false, _&&_}
 use lib.Dec.{leb, ltb, eqb}
 use lib.ListN.{length, getD}
-use Rattle.cells.specs.Answer.{answer, Test, refuses}
-use Rattle.cells.specs.Cell.{proper, start, span}
+use Rattle.cells.specs.Answer.{answer, Test, refusesFirst}
+use Rattle.cells.specs.Cell.{proper, start, end}
 
 -- whether the n numbers from s on pass
 unfoldable pub allFrom : (ℕ → Bool) → ℕ → ℕ → Bool
@@ -14,7 +15,7 @@ allFrom P s (suc n) = P (s + n) && allFrom P s n
 
 -- whether the leaf at i starts before the end of the leaf before it
 unfoldable pub early : ℕ → List ℕ → ℕ → Bool
-early D l i = leb 1 i && ltb (start D (getD l i 0)) (start D (getD l (i - 1) 0) + span D (getD l (i - 1) 0))
+early D l i = leb 1 i && ltb (start D (getD l i 0)) (end D (getD l (i - 1) 0))
 
 -- whether the eight codes from index a on are those of the eight children of one cell
 unfoldable pub eightAt : List ℕ → ℕ → Bool
@@ -31,15 +32,6 @@ numbered true false false = 0
 unfoldable pub fault : ℕ → List ℕ → ℕ → ℕ
 fault D l i = numbered (proper D (getD l i 0)) (early D l i) (leb 7 i && eightAt l (i - 7))
 
--- the first of the n numbers from i on that passes; i + n where none does
-unfoldable pub firstFrom : (ℕ → Bool) → ℕ → ℕ → ℕ
-firstFrom P i zero = i
-firstFrom P i (suc n) = elim (P i) [ true ↦ i | false ↦ firstFrom P (suc i) n ]
-
--- the lowest index with a fault; the length where there is none
-unfoldable pub firstFault : ℕ → List ℕ → ℕ
-firstFault D l = firstFrom (λ i. not (eqb (fault D l i) 0)) 0 (length l)
-
 -- numbers 2, 3 and 4: the first fault of the call's list k
 abbrev pub Faulty : ℕ → List ℕ → ℕ → Test
-Faulty D l k = refuses (answer (fault D l (firstFault D l)) (firstFault D l) k) (firstFault D l < length l)
+Faulty D l k = refusesFirst (length l) (λ i. fault D l i ≡ 0 → ⊥) (λ i. answer (fault D l i) i k)

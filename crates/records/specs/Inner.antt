@@ -3,13 +3,22 @@ use mathlib.Core.Bool.{Bool, _&&_}
 use mathlib.Core.List.{List, [], _∷_}
 use Prim.Native.Nat.{ℕ, _+_, _-_, _≤_, _<_}
 use lib.Dec.{ltb}
-use lib.ListN.{getD}
-use Rattle.cells.specs.Cell.{start, span}
+use lib.ListN.{length, getD}
+use Rattle.cells.specs.Answer.{deepest}
+use Rattle.cells.specs.Cell.{start, span, end}
+use Rattle.records.specs.Record.{Ordered}
 
 -- how many voxels the leaves have
 unfoldable pub volume : ℕ → List ℕ → ℕ
 volume D [] = 0
 volume D (c ∷ l) = span D c + volume D l
+
+-- the places lo up to hi of a list can be searched
+pub record Searchable (D : ℕ) (l : List ℕ) (lo hi : ℕ) : Type 0 where
+  pub shallow : D ≤ deepest
+  pub ordered : Ordered D 0 l
+  pub rising : lo ≤ hi
+  pub within : hi ≤ length l
 
 -- r is the first place from lo up to hi whose leaf starts at v or after it
 pub record Starts (D : ℕ) (l : List ℕ) (v lo hi r : ℕ) : Type 0 where
@@ -20,4 +29,4 @@ pub record Starts (D : ℕ) (l : List ℕ) (v lo hi r : ℕ) : Type 0 where
 
 -- whether the leaf before place `at` ends after voxel v
 unfoldable pub reaches : ℕ → List ℕ → ℕ → ℕ → Bool
-reaches D l at v = ltb 0 at && ltb v (start D (getD l (at - 1) 0) + span D (getD l (at - 1) 0))
+reaches D l at v = ltb 0 at && ltb v (end D (getD l (at - 1) 0))

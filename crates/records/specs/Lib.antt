@@ -5,7 +5,7 @@ pub mod Fault
 pub mod Calls
 pub mod Writing
 pub mod Met
+pub mod Carried
 -- the vocabulary of private and inner functions
 pub mod Inner
 pub mod Walk
-pub mod Meeting

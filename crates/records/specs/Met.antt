@@ -6,12 +6,13 @@ use mathlib.Core.List.{List, [], _∷_}
 use Prim.Native.Nat.{ℕ, _+_, _*_, _≤_, _<_}
 use lib.IntN.{ℤ}
 use lib.ListN.{length, getD, take, drop}
-use Rattle.cells.specs.Answer.{given, Test, Decided, alone, TooDeep}
+use Rattle.cells.specs.Answer.{given, Test, Decided, deepest, TooDeep}
 use Rattle.cells.specs.Cell.{start, holds}
 use Rattle.cells.specs.Corners.{NoCell}
 use Rattle.cells.specs.Neighbour.{NoDirection, Neighbour, Outside}
 use Rattle.cells.specs.declared.Answer.{Answer}
 use Rattle.records.specs.Fault.{Faulty}
+use Rattle.records.specs.declared.meetings.Meeting.{Meeting}
 
 -- the cells c and m share a voxel
 abbrev pub Meets : ℕ → ℕ → ℕ → Type 0
@@ -25,29 +26,27 @@ pub record MetPart (D : ℕ) (l : List ℕ) (m at n : ℕ) : Type 0 where
   pub inserted : n ≡ 0 → (i : ℕ) → i < length l → (i < at) ↔ (start D (getD l i 0) < start D m)
 
 -- the tests of both calls
-abbrev pub metTests : ℕ → List ℕ → ℕ → ℤ → ℤ → ℤ → List Test
-metTests D l c dx dy dz = TooDeep D ∷ Faulty D l 1 ∷ NoCell D c ∷ NoDirection dx dy dz ∷ Outside D c dx dy dz ∷ []
+abbrev pub metTests : ℕ → List ℕ → ℕ → (ℕ → ℤ) → List Test
+metTests D l c d = TooDeep deepest D ∷ Faulty D l 1 ∷ NoCell D c ∷ NoDirection d ∷ Outside D c d ∷ []
 
--- a part of a list by its beginning and its length; where a call is refused, the empty part at the list's beginning
-abbrev pub atBeginning : Answer → ℕ × ℕ
-atBeginning a = (0, 0)
+-- a refusal, with the empty part at the list's beginning
+abbrev pub unmet : Answer → Meeting
+unmet a = record { answer = a; at = 0; n = 0 }
 
-abbrev pub PartOf : ℕ → List ℕ → ℕ → ℤ → ℤ → ℤ → ℕ × ℕ → Type 0
-PartOf D l c dx dy dz =
-    Decided atBeginning (metTests D l c dx dy dz)
-    (λ t. (m : ℕ) × Neighbour D c dx dy dz m × MetPart D l m (t .0) (t .1))
+-- What both calls find: an answer, and the part of n leaves that begins at index `at`. Success tells where the part begins.
+abbrev pub MeetingOf : ℕ → List ℕ → ℕ → (ℕ → ℤ) → Meeting → Type 0
+MeetingOf D l c d =
+    Decided unmet (metTests D l c d)
+    (λ r. (m : ℕ) × Neighbour D c d m × MetPart D l m (r .at) (r .n) × (r .answer ≡ given (r .at)))
 
 -- THE CALL met: the part r of the caller's own list l, not a copy. p is where l begins in memory and q where r does: a block and a place in it, in bytes.
-pub record MetOf (D : ℕ) (l : List ℕ) (p : ℕ × ℕ) (c : ℕ) (dx dy dz : ℤ) (r : List ℕ) (q : ℕ × ℕ) : Type 0 where
-  pub at : ℕ
-  pub n : ℕ
-  pub part : PartOf D l c dx dy dz (at, n)
-  pub codes : r ≡ take n (drop at l)
+pub record MetOf (D : ℕ) (l : List ℕ) (p : ℕ × ℕ) (c : ℕ) (d : ℕ → ℤ) (r : List ℕ) (q : ℕ × ℕ) : Type 0 where
+  pub meeting : Meeting
+  pub found : MeetingOf D l c d meeting
+  pub codes : r ≡ take (meeting .n) (drop (meeting .at) l)
   pub memory : q .0 ≡ p .0
-  pub begins : q .1 ≡ p .1 + at * 4
+  pub begins : q .1 ≡ p .1 + meeting .at * 4
 
 -- THE CALL met_at: the index where that part begins
-abbrev pub MetAtOf : ℕ → List ℕ → ℕ → ℤ → ℤ → ℤ → Answer → Type 0
-MetAtOf D l c dx dy dz =
-    Decided alone (metTests D l c dx dy dz)
-    (λ r. (m : ℕ) × (at : ℕ) × (n : ℕ) × Neighbour D c dx dy dz m × MetPart D l m at n × (r ≡ given at))
+abbrev pub MetAtOf : ℕ → List ℕ → ℕ → (ℕ → ℤ) → Answer → Type 0
+MetAtOf D l c d r = (t : Meeting) × MeetingOf D l c d t × (r ≡ t .answer)

@@ -4,7 +4,7 @@ use mathlib.Core.Logic.{_↔_}
 use mathlib.Core.List.{List, [], _∷_, List·Memᴰ}
 use Prim.Native.Nat.{ℕ, _+_, _*_, _^_, _<_, _≤_}
 use mathlib.Core.Bool.{Bool, true, false, _||_}
-use Rattle.cells.specs.Cell.{proper, start, span, holds}
+use Rattle.cells.specs.Cell.{proper, start, end, holds}
 
 -- whether voxel v is black: some leaf holds it
 unfoldable pub black : ℕ → List ℕ → ℕ → Bool
@@ -14,7 +14,7 @@ black D (c ∷ l) v = holds D c v || black D l v
 -- every code is proper, and each leaf starts at or after the end of the leaf before it; the first at or after `from`
 unfoldable pub Ordered : ℕ → ℕ → List ℕ → Type 0
 Ordered D from [] = Unit {0}
-Ordered D from (c ∷ l) = (proper D c ≡ true) × (from ≤ start D c) × Ordered D (start D c + span D c) l
+Ordered D from (c ∷ l) = (proper D c ≡ true) × (from ≤ start D c) × Ordered D (end D c) l
 
 -- no eight leaves are the eight children of one cell
 unfoldable pub Condensed : List ℕ → Type 0

@@ -1,6 +1,7 @@
 // What is told of a whole list, and of one voxel: `check`, `volume`, `lookup`.
 use crate::inner::first_from;
 use crate::inner::judge;
+use crate::inner::judged;
 use crate::inner::last_reaches;
 use cells::Answer;
 use cells::DEEPEST;
@@ -10,69 +11,40 @@ use cells::inner::refusal;
 use cells::inner::success;
 ghost use mathlib.Core.Path.{_≡_};
 ghost use Prim.Native.Nat.{_≤_, _<_, _^_};
-ghost use lib.ListN.{length};
 ghost use Rattle.cells.specs.Answer.{deepest};
+ghost use Rattle.cells.specs.Place.{axes};
 ghost use Rattle.records.specs.Record.{black, Ordered};
 ghost use Rattle.records.specs.Calls.{CheckOf, inRoot, LookupOf, VolumeOf};
-ghost use Rattle.records.specs.Walk.{Surveyed};
-
-// What `check` tells of a list, and how many voxels its leaves have, 0 where it is refused.
-struct Survey {
-    answer: Answer,
-    voxels: u32,
-}
-
-// The list judged: 1 for the depth, 2 to 4 for the first fault.
-fn survey_of(depth: u32, list: &[u32]) -> Survey
-    ensures { λ r. ⌜ Surveyed depth (now (list .entry)) r ⌝ }
-{
-    if DEEPEST < depth {
-        return Survey {
-            answer: refusal(1, 0, 0),
-            voxels: 0,
-        };
-    }
-    let found = judge(depth, list);
-    let number = found.number;
-    let place = found.place;
-    if number != 0 {
-        return Survey {
-            answer: refusal(number, place, 1),
-            voxels: 0,
-        };
-    }
-    Survey {
-        answer: success(place),
-        voxels: found.sum,
-    }
-}
 
 // Whether a list is good: the number of leaves, or 1 for the depth, 2 to 4 for the first fault.
 pub fn check(depth: u32, list: &[u32]) -> Answer
     ensures { λ r. ⌜ CheckOf depth (now (list .entry)) r ⌝ }
 {
-    let survey = survey_of(depth, list);
-    survey.answer
+    if DEEPEST < depth {
+        return refusal(1, 0, 0);
+    }
+    judged(depth, list, 1)
 }
 
 // How many voxels are black; refused as `check` is.
 pub fn volume(depth: u32, list: &[u32]) -> Answer
     ensures { λ r. ⌜ VolumeOf depth (now (list .entry)) r ⌝ }
 {
-    let survey = survey_of(depth, list);
-    let answer = survey.answer;
-    let number = answer.number;
-    if number != 0 {
-        return answer;
+    if DEEPEST < depth {
+        return refusal(1, 0, 0);
     }
-    let voxels = survey.voxels;
-    success(voxels as u64)
+    let walk = judge(depth, list);
+    let number = walk.number;
+    if number != 0 {
+        return refusal(number, walk.passed, 1);
+    }
+    success(walk.sum as u64)
 }
 
 // Whether the voxel x, y, z lies in the root.
 fn in_root(depth: u32, x: u32, y: u32, z: u32) -> bool
     requires { ⌜ depth ≤ deepest ⌝ }
-    ensures { λ r. ⌜ r ≡ inRoot depth x y z ⌝ }
+    ensures { λ r. ⌜ r ≡ inRoot depth (axes x y z) ⌝ }
 {
     let side = pow2(depth);
     if side <= x {
@@ -84,12 +56,12 @@ fn in_root(depth: u32, x: u32, y: u32, z: u32) -> bool
     z < side
 }
 
-// Whether voxel v is black in a list of n leaves.
-fn is_black(depth: u32, list: &[u32], n: u32, v: u32) -> bool
-    requires { ⌜ (depth ≤ deepest) × Ordered depth 0 (now list) × (n ≡ length (now list)) × (v < 8 ^ depth) ⌝ }
+// Whether voxel v is black.
+fn is_black(depth: u32, list: &[u32], v: u32) -> bool
+    requires { ⌜ (depth ≤ deepest) × Ordered depth 0 (now list) × (v < 8 ^ depth) ⌝ }
     ensures { λ r. ⌜ r ≡ black depth (now (list .entry)) v ⌝ }
 {
-    let after = first_from(depth, list, v + 1, 0, n);
+    let after = first_from(depth, list, v + 1, 0, list.len());
     last_reaches(depth, list, after, v)
 }
 
@@ -99,7 +71,6 @@ pub fn lookup(depth: u32, list: &[u32], x: u32, y: u32, z: u32) -> Answer
 {
     let listed = check(depth, list);
     let number = listed.number;
-    let place = listed.place;
     if number != 0 {
         return listed;
     }
@@ -107,7 +78,7 @@ pub fn lookup(depth: u32, list: &[u32], x: u32, y: u32, z: u32) -> Answer
         return refusal(6, 0, 0);
     }
     let voxel = number_of(depth, x, y, z);
-    if is_black(depth, list, place as u32, voxel) {
+    if is_black(depth, list, voxel) {
         return success(1);
     }
     success(0)

@@ -1,30 +1,27 @@
 // INNER: the walk that judges a list, and the search in a good one, for the crates above. A host must not call these.
+use cells::Answer;
 use cells::inner::first;
 use cells::inner::is_proper;
+use cells::inner::refusal;
+use cells::inner::success;
 use cells::inner::width;
 ghost use mathlib.Core.Path.{_≡_};
 ghost use mathlib.Core.List.{List};
-ghost use Prim.Native.Nat.{ℕ, _≤_, _<_};
+ghost use Prim.Native.Nat.{ℕ, _+_, _≤_, _<_};
 ghost use lib.ListN.{length, getD};
 ghost use Rattle.cells.specs.Answer.{deepest};
 ghost use Rattle.records.specs.Record.{Ordered};
-ghost use Rattle.records.specs.Inner.{Starts, reaches};
-ghost use Rattle.records.specs.Walk.{nextRun, Walked, Stepped, Found};
+ghost use Rattle.records.specs.Inner.{Searchable, Starts, reaches};
+ghost use Rattle.records.specs.Walk.{nextRun, Walked, JudgedOf};
 
-// What is kept of the leaves passed: the number of the fault at the last one, its code, the voxel number after it,
-// how many siblings in a row end with it, and the voxels of all.
+// What is kept of the leaves passed: the number of the fault that ended the walk, 0 while there is none; how many leaves it passed; the last one's code;
+// the voxel number after it; how many siblings in a row end with it; the voxels of all.
 pub struct Walk {
     pub number: u32,
+    pub passed: u64,
     pub last: u32,
     pub past: u32,
     pub run: u32,
-    pub sum: u32,
-}
-
-// The number of a list's first fault and its index; 0, the length and the number of voxels where there is none.
-pub struct Verdict {
-    pub number: u32,
-    pub place: u64,
     pub sum: u32,
 }
 
@@ -34,6 +31,7 @@ pub fn begin() -> Walk
 {
     Walk {
         number: 0,
+        passed: 0,
         last: 0,
         past: 0,
         run: 0,
@@ -41,12 +39,13 @@ pub fn begin() -> Walk
     }
 }
 
-// A walk that ends with a fault.
-fn ended(number: u32) -> Walk
-    ensures { λ r. ⌜ r .number ≡ number ⌝ }
+// A walk that ends with a fault at the next leaf.
+fn ended(number: u32, passed: u64) -> Walk
+    ensures { λ r. ⌜ (r .number ≡ number) × (r .passed ≡ passed) ⌝ }
 {
     Walk {
         number,
+        passed,
         last: 0,
         past: 0,
         run: 0,
@@ -71,25 +70,31 @@ fn next_run(last: u32, run: u32, code: u32) -> u32
     0
 }
 
-// A leaf more. The tests are those of document 01, in its order, on what is kept of the leaves before.
+// A leaf more. The tests are those of document 01, in its order, on what is kept of the leaves before. A walk that has ended stays as it is.
 pub fn step(depth: u32, walk: Walk, code: u32) -> Walk
     requires { ⌜ (depth ≤ deepest) × ((l : List ℕ) × (i : ℕ) × Walked depth l i walk) ⌝ }
-    ensures { λ r. ⌜ ((l : List ℕ) (i : ℕ) → Walked depth l i walk → getD l i 0 ≡ code → Stepped depth l i r) ⌝ }
+    ensures { λ r. ⌜ ((l : List ℕ) (i : ℕ) → Walked depth l i walk → getD l i 0 ≡ code → Walked depth l (i + 1) r) ⌝ }
 {
+    let number = walk.number;
+    if number != 0 {
+        return walk;
+    }
+    let passed = walk.passed;
     if !is_proper(depth, code) {
-        return ended(2);
+        return ended(2, passed);
     }
     let from = first(depth, code);
     if from < walk.past {
-        return ended(3);
+        return ended(3, passed);
     }
     let run = next_run(walk.last, walk.run, code);
     if run == 8 {
-        return ended(4);
+        return ended(4, passed);
     }
     let voxels = width(depth, code);
     Walk {
         number: 0,
+        passed: passed + 1,
         last: code,
         past: from + voxels,
         run,
@@ -97,43 +102,51 @@ pub fn step(depth: u32, walk: Walk, code: u32) -> Walk
     }
 }
 
-// The first fault of a list, in one pass over its leaves.
-pub fn judge(depth: u32, list: &[u32]) -> Verdict
+// A walk along a whole list.
+pub fn judge(depth: u32, list: &[u32]) -> Walk
     requires { ⌜ depth ≤ deepest ⌝ }
-    ensures { λ r. ⌜ Found depth (now (list .entry)) r ⌝ }
+    ensures { λ r. do ⌜ Walked depth (now (list .entry)) (length (now (list .entry))) r ⌝ }
 {
     let mut walk = begin();
     let mut i: usize = 0;
     while i < list.len() {
         walk = step(depth, walk, list[i]);
-        let number = walk.number;
-        if number != 0 {
-            return Verdict {
-                number,
-                place: i as u64,
-                sum: 0,
-            };
-        }
         i += 1;
     }
-    Verdict {
-        number: 0,
-        place: i as u64,
-        sum: walk.sum,
+    walk
+}
+
+// What a walk along the whole of list k tells: the refusal at its first fault, or success with the number of its leaves.
+pub fn told(walk: Walk, k: u32) -> Answer
+    ensures { λ r. ⌜ ((D : ℕ) (l : List ℕ) → Walked D l (length l) walk → JudgedOf D l k r) ⌝ }
+{
+    let number = walk.number;
+    let passed = walk.passed;
+    if number != 0 {
+        return refusal(number, passed, k);
     }
+    success(passed)
+}
+
+// The refusal of list k at its first fault, or success with the number of its leaves.
+pub fn judged(depth: u32, list: &[u32], k: u32) -> Answer
+    requires { ⌜ depth ≤ deepest ⌝ }
+    ensures { λ r. ⌜ JudgedOf depth (now (list .entry)) k r ⌝ }
+{
+    let walk = judge(depth, list);
+    told(walk, k)
 }
 
 // The first place from lo up to hi whose leaf starts at voxel v or after it, or hi.
-pub fn first_from(depth: u32, l: &[u32], v: u32, lo: u32, hi: u32) -> u32
-    requires { ⌜ (depth ≤ deepest) × Ordered depth 0 (now l) × (lo ≤ hi) × (hi ≤ length (now l)) ⌝ }
+pub fn first_from(depth: u32, l: &[u32], v: u32, lo: usize, hi: usize) -> usize
+    requires { ⌜ Searchable depth (now l) lo hi ⌝ }
     ensures { λ r. ⌜ Starts depth (now (l .entry)) v lo hi r ⌝ }
 {
     let mut a = lo;
     let mut b = hi;
     while a < b {
         let mid = a + (b - a) / 2;
-        let at = mid as usize;
-        let c = l[at];
+        let c = l[mid];
         if first(depth, c) < v {
             a = mid + 1;
         } else {
@@ -144,14 +157,13 @@ pub fn first_from(depth: u32, l: &[u32], v: u32, lo: u32, hi: u32) -> u32
 }
 
 // Whether the leaf before place `at` ends after voxel v. Of the leaves that start before v, or at it, only the last can hold it.
-pub fn last_reaches(depth: u32, l: &[u32], at: u32, v: u32) -> bool
+pub fn last_reaches(depth: u32, l: &[u32], at: usize, v: u32) -> bool
     requires { ⌜ (depth ≤ deepest) × Ordered depth 0 (now l) × (at ≤ length (now l)) ⌝ }
     ensures { λ r. ⌜ r ≡ reaches depth (now (l .entry)) at v ⌝ }
 {
     if at == 0 {
         return false;
     }
-    let place = (at - 1) as usize;
-    let c = l[place];
+    let c = l[at - 1];
     v < first(depth, c) + width(depth, c)
 }

@@ -1,5 +1,11 @@
 // Lists of leaves: document 01, "Lists" and "Neighbours".
-// A host calls `checks::check`, `checks::lookup`, `checks::volume`, `met::met` and `met::met_at`; `inner` is for the crates above.
+// A host calls `check`, `lookup`, `volume`, `met` and `met_at`; `inner` is for the crates above.
 pub mod checks;
 pub mod inner;
-pub mod met;
+pub mod meetings;
+
+pub use checks::check;
+pub use checks::lookup;
+pub use checks::volume;
+pub use meetings::met;
+pub use meetings::met_at;

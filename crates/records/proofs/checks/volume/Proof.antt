@@ -1,38 +1,53 @@
 -- `records::checks::volume` meets its contract: the voxels of the leaves are the black ones. Assumes nothing.
-use mathlib.Core.Path.{_≡_, sym, ap, _∙_}
-use mathlib.Core.List.{[]}
+use mathlib.Core.Path.{_≡_, refl, sym, ap, _∙_}
+use mathlib.Core.List.{List}
+use mathlib.Core.Logic.{inl, inr}
+use Prim.Native.Nat.{ℕ}
 use borrow.Author.Needs.{needs}
-use Rattle.cells.specs.Answer.{given, alone}
-use Rattle.cells.specs.declared.Answer.{Answer}
-use Rattle.records.proofs.CallLaws.{check-first, check-next, checked}
-use Rattle.records.proofs.Volume.{blacks, list-volume}
+use Rattle.cells.specs.Answer.{given}
+use Rattle.cells.proofs.Decisions.{passes, deep-enough}
+use Rattle.records.proofs.Volumes.{list-volume}
+use Rattle.records.proofs.Walks.{walked-refuses, walked-good, walked-passes, walked-volume}
 use Rattle.records.proofs.checks.volume.Statement.{statement}
 use Rattle.records.proofs.checks.volume.Tie as tie
 
-module _ (c : tie.After-answer) where
-  abbrev s : tie.Start
-  s = c .before .before .before
+module _ (c : tie.After-judge) where
+  abbrev deep : tie.Else1
+  deep = c .before
 
-  abbrev Told : Answer → Type 0
-  Told r = r ≡ given (blacks (s .args .depth) (s .args .list .now))
+  abbrev D : ℕ
+  D = deep .before .before .args .depth
 
-returns : tie.Need-returns
-returns c =
-    let t = c .before in
-    let a = s t .args in
-    let r = t .before .survey-of in
-    check-first (a .depth) (a .list .now) (r .result .answer) (r .ensures .tells) alone [] (Told t) (c .if1 .taken)
+  abbrev l : List ℕ
+  l = deep .before .before .args .list .now
 
 returns-2 : tie.Need-returns-2
 returns-2 c =
-    let t = c .before .before in
-    let a = s t .args in
-    let r = t .before .survey-of in
-    let z : r .result .answer .number ≡ 0 = search needs in
-    let k = checked (a .depth) (a .list .now) (r .result .answer) (r .ensures .tells) z in
-    check-next (a .depth) (a .list .now) (r .result .answer) (r .ensures .tells) alone [] (Told t) _ z
-    (c .success .ensures ∙ ap given (r .ensures .is-voxels z ∙ sym (list-volume (a .depth) 0 (a .list .now) (k .good .ordered))))
+    let j = c .before .before in
+    inr (passes (deep-enough (deep j .if1 .left)), inl (_, walked-refuses (D j) (l j) _ (j .judge .ensures) 1 (c .before .if2 .taken), c .refusal2 .ensures))
+
+returns-3 : tie.Need-returns-3
+returns-3 c =
+    let j = c .before .before .before in
+    let w = j .judge .ensures in
+    let z : j .judge .result .number ≡ 0 = search needs in
+    inr (
+      passes (deep-enough (deep j .if1 .left)),
+      inr (
+        walked-passes (D j) (l j) _ w 1 z,
+        c .success .ensures ∙ ap given (walked-volume (D j) (l j) _ w z ∙ sym (list-volume (D j) 0 (l j) (walked-good (D j) (l j) _ w z .ordered))),
+      ),
+    )
 
 pub volume-spec : {M : Type 1} → statement M
 volume-spec =
-    tie.close (tie.spec (λ c κs. search needs) returns (λ c. search needs) (λ c κs. search needs) returns-2)
+    tie.close
+    (tie.spec
+    (λ c κs. search needs)
+    (λ c. inl (_, (c .before .if1 .taken, refl), c .refusal .ensures))
+    (λ c κs. search needs)
+    (λ c κs. search needs)
+    returns-2
+    (λ c. search needs)
+    (λ c κs. search needs)
+    returns-3)

@@ -5,4 +5,4 @@ use Rattle.records.proofs.inner.begin.Statement.{statement}
 use Rattle.records.proofs.inner.begin.Tie as tie
 
 pub begin-spec : {M : Type 1} → statement M
-begin-spec = tie.close (tie.spec (λ c. λ D l. begins D l _ refl refl refl refl))
+begin-spec = tie.close (tie.spec (λ c. λ D l. begins D l _ refl refl refl refl refl refl))

@@ -42,18 +42,18 @@ module _ (c : tie.In-loop Inv-loop μ-loop) where
   below-hi = omega (arith, u .loop .inv .to, c .loop-test .taken)
 
   within : mid < length (s .args .l .now)
-  within = omega (arith, below-hi, s .pre .3)
+  within = omega (arith, below-hi, s .pre .within)
 
 first-requires : tie.Need-first-requires Inv-loop μ-loop
 first-requires c κs =
     let t = c .before in
-    (s t .pre .0, proper-at (s t .args .depth) (s t .args .l .now) (s t .pre .1) (mid t) (within t))
+    (s t .pre .shallow, proper-at (s t .args .depth) (s t .args .l .now) (s t .pre .ordered) (mid t) (within t))
 
 loop-again : tie.Need-loop-again Inv-loop μ-loop
 loop-again c =
     let t = c .before .before .before in
     let a = s t .args in
-    let o = s t .pre .1 in
+    let o = s t .pre .ordered in
     let v = u t .loop .inv in
     record {
       from = omega (arith, v .from);
@@ -67,14 +67,14 @@ loop-again-2 : tie.Need-loop-again-2 Inv-loop μ-loop
 loop-again-2 c =
     let t = c .before .before .before in
     let a = s t .args in
-    let o = s t .pre .1 in
+    let o = s t .pre .ordered in
     let v = u t .loop .inv in
     record {
       from = v .from;
       order = omega arith;
       to = omega (arith, below-hi t);
       below = v .below;
-      above = λ i p q. omega (arith, starts-rise (a .depth) (a .l .now) o (mid t) i p (omega (arith, s t .pre .3)), c .if1 .left, c .before .first .ensures);
+      above = λ i p q. omega (arith, starts-rise (a .depth) (a .l .now) o (mid t) i p (omega (arith, s t .pre .within)), c .if1 .left, c .before .first .ensures);
     }
 
 returns : tie.Need-returns Inv-loop μ-loop
@@ -89,7 +89,6 @@ first-from-spec =
     Inv-loop
     μ-loop
     loop-holds
-    (λ c. search needs)
     (λ c. search needs)
     (λ c. search needs)
     (λ c. search needs)

@@ -1,11 +1,10 @@
--- `records::inner::judge` meets its contract. The loop's invariant: `walk` is what is kept of the first i leaves, which have no fault. Assumes nothing.
+-- `records::inner::judge` meets its contract. The loop's invariant: `walk` has passed the first i leaves. Assumes nothing.
 use mathlib.Core.Path.{refl, subst}
 use Prim.Native.Nat.{ℕ, _-_, _≤_}
 use native.Mathlib.Omega.{arith}
 use lib.ListN.{length}
 use borrow.Author.Needs.{needs}
-use Rattle.records.specs.Walk.{Walked, Stepped}
-use Rattle.records.proofs.Walks.{found-fault, found-none}
+use Rattle.records.specs.Walk.{Walked}
 use Rattle.records.proofs.inner.judge.Statement.{statement}
 use Rattle.records.proofs.inner.judge.Tie as tie
 
@@ -15,43 +14,23 @@ Inv-loop depth list walk₀ i₀ walk i = (i ≤ length list) × Walked depth li
 abbrev μ-loop : tie.MeasureT-loop
 μ-loop depth list walk₀ i₀ walk i = length list - i
 
-step-requires : tie.Need-step-requires Inv-loop μ-loop
-step-requires c κs =
-    let s = c .before .before .before .before .before in
-    let o = c .before .before .loop in
-    (s .pre, (s .args .list .now, o .i, o .inv .1))
+-- ---- in the loop
 
--- ---- what a step told
-
-module _ (c : tie.After-step Inv-loop μ-loop) where
+module _ (c : tie.In-loop Inv-loop μ-loop) where
   abbrev s : tie.Start Inv-loop μ-loop
-  s = c .before .before .before .before .before .before
-
-  abbrev o : tie.At-loop Inv-loop μ-loop
-  o = c .before .before .before
-
-  told : Stepped (s .args .depth) (s .args .list .now) (o .loop .i) (c .step .result)
-  told = c .step .ensures (s .args .list .now) (o .loop .i) (o .loop .inv .1) refl
-
-returns : tie.Need-returns Inv-loop μ-loop
-returns c =
-    let p = c .before in
-    let a = s p .args in
-    let w = o p .loop in
-    found-fault (a .depth) (a .list .now) (w .i) (w .walk) (w .inv .1) (p .step .result) (told p) (p .before .before .loop-test .taken) (c .if1 .taken) _ refl refl
+  s = c .before .before .before .before
 
 loop-again : tie.Need-loop-again Inv-loop μ-loop
 loop-again c =
-    let p = c .before in
-    let a = s p .args in
-    let i = o p .loop .i in
-    (omega (arith, p .before .before .loop-test .taken), subst (λ (n : ℕ). Walked (a .depth) (a .list .now) n (p .step .result)) (omega arith) (told p .goes-on (search needs)))
+    let t = c .before .before in
+    let o = t .before .loop in
+    (omega (arith, t .loop-test .taken), c .step .ensures (s t .args .list .now) (o .i) (o .inv .1) refl)
 
-returns-2 : tie.Need-returns-2 Inv-loop μ-loop
-returns-2 c =
+returns : tie.Need-returns Inv-loop μ-loop
+returns c =
     let a = c .before .before .before .before .args in
-    let w = c .before .loop in
-    found-none (a .depth) (a .list .now) (w .i) (w .walk) (w .inv .1) (omega (arith, c .loop-test .left, w .inv .0)) _ refl refl refl
+    let o = c .before .loop in
+    subst (λ (n : ℕ). Walked (a .depth) (a .list .now) n (o .walk)) (omega (arith, c .loop-test .left, o .inv .0)) (o .inv .1)
 
 pub judge-spec : {M : Type 1} → statement M
 judge-spec =
@@ -63,9 +42,8 @@ judge-spec =
     (λ c. (search needs, c .begin .ensures _ _))
     (λ c. search needs)
     (λ c. search needs)
-    step-requires
-    returns
+    (λ c κs. let t = c .before in (s t .pre, (s t .args .list .now, t .before .loop .i, t .before .loop .inv .1)))
     (λ c. search needs)
     (λ c. search needs)
     loop-again
-    returns-2)
+    returns)

@@ -1,91 +1,115 @@
 -- `records::inner::step` meets its contract: each test is the fault's own, on what is kept of the leaves before. Assumes nothing.
 use mathlib.Core.Path.{_≡_, refl, sym, _∙_}
 use mathlib.Core.Bool.{true}
-use Prim.Native.Nat.{_+_, _≤_, _<_, _^_}
+use Prim.Native.Nat.{ℕ, _+_, _≤_, _<_, _^_}
 use native.Mathlib.Omega.{arith}
 use borrow.Author.Needs.{needs}
 use borrow.Author.Tests.{not-true, not-false}
 use Rattle.cells.specs.Answer.{deepest}
-use Rattle.cells.specs.Cell.{proper, start, span}
+use Rattle.cells.specs.Cell.{proper, start, end}
 use Rattle.cells.proofs.Cells.{within}
 use Rattle.cells.proofs.Words.{pow8-small}
-use Rattle.records.proofs.Walks.{improper, too-early, eighth, stops, goes}
+use Rattle.records.specs.Walk.{Kept}
+use Rattle.records.proofs.Walks.{stays, improper, too-early, eighth, stops, goes}
 use Rattle.records.proofs.inner.step.Statement.{statement}
 use Rattle.records.proofs.inner.step.Tie as tie
 
--- ---- what is known past the first test: the code is proper; past the second: the leaf is not early
+-- ---- what is known past the first test: the walk has not ended; past the second: the code is proper; past the third: the leaf is not early
 
 module _ (c : tie.Else1) where
   abbrev s : tie.Start
-  s = c .before .before
+  s = c .before
 
-  is : proper (s .args .depth) (s .args .code) ≡ true
-  is = sym (c .before .is-proper .ensures) ∙ not-false _ (c .if1 .left)
+  abbrev D : ℕ
+  D = s .args .depth
 
-  -- its leaf ends within the root, and the root fits
-  small : start (s .args .depth) (s .args .code) + span (s .args .depth) (s .args .code) ≤ 8 ^ deepest
-  small = omega (arith, within (s .args .depth) (s .args .code) is, pow8-small (s .args .depth) (s .pre .0))
+  abbrev code : ℕ
+  code = s .args .code
+
+  going : s .args .walk .number ≡ 0
+  going = search needs
+
+  kept : Kept D (s .pre .1 .0) (s .pre .1 .1) (s .args .walk)
+  kept = s .pre .1 .2 .kept going
 
 module _ (c : tie.Else2) where
-  abbrev t : tie.Else1
-  t = c .before .before .before
+  abbrev u : tie.Else1
+  u = c .before .before
 
-  late : s t .args .walk .past ≤ start (s t .args .depth) (s t .args .code)
-  late = omega (arith, c .before .before .first .ensures, c .if2 .left)
+  is : proper (D u) (code u) ≡ true
+  is = sym (c .before .is-proper .ensures) ∙ not-false _ (c .if2 .left)
 
-returns : tie.Need-returns
-returns c =
-    let a = c .before .before .before .args in
-    let p = sym (c .before .before .is-proper .ensures) ∙ not-true _ (c .before .if1 .taken) in
-    λ l i w e. stops (a .depth) l i (a .walk) (a .code) w e _ 2 (c .ended .ensures) (λ z. omega arith) (improper (a .depth) l i (a .walk) (a .code) w e p)
+  -- its leaf ends within the root, and the root fits
+  small : end (D u) (code u) ≤ 8 ^ deepest
+  small = omega (arith, within (D u) (code u) is, pow8-small (D u) (s u .pre .0))
+
+module _ (c : tie.Else3) where
+  abbrev p : tie.Else2
+  p = c .before .before .before
+
+  late : s (u p) .args .walk .past ≤ start (D (u p)) (code (u p))
+  late = omega (arith, c .before .before .first .ensures, c .if3 .left)
 
 returns-2 : tie.Need-returns-2
 returns-2 c =
-    let u = c .before .before .before .before in
-    let a = s u .args in
-    let h : start (a .depth) (a .code) < a .walk .past = omega (arith, c .before .before .before .first .ensures, c .before .if2 .taken) in
-    λ l i w e. stops (a .depth) l i (a .walk) (a .code) w e _ 3 (c .ended2 .ensures) (λ z. omega arith) (too-early (a .depth) l i (a .walk) (a .code) w e (is u) h)
+    let q = c .before .before in
+    let v = q .before in
+    let bad = sym (q .is-proper .ensures) ∙ not-true _ (c .before .if2 .taken) in
+    λ l i w e. let k = w .kept (going v) in stops (D v) l i _ (code v) k e _ 2 (c .ended .ensures) (λ z. omega arith) (improper (D v) l i _ (code v) k e bad)
 
 returns-3 : tie.Need-returns-3
 returns-3 c =
-    let q = c .before .before .before in
-    let a = s (t q) .args in
-    let r = sym (c .before .before .next-run .ensures) ∙ c .before .if3 .taken in
-    λ l i w e. stops (a .depth) l i (a .walk) (a .code) w e _ 4 (c .ended3 .ensures) (λ z. omega arith) (eighth (a .depth) l i (a .walk) (a .code) w e (is (t q)) (late q) r)
-
-add-t9 : tie.Need-add-t9
-add-t9 c =
-    let u = t (c .before .before .before) in
-    omega (arith, c .before .before .before .before .before .first .ensures, c .width .ensures, small u)
-
-add-t10 : tie.Need-add-t10
-add-t10 c =
     let q = c .before .before .before .before in
-    omega (arith, c .before .width .ensures, small (t q), late q, s (t q) .pre .1 .2 .few)
+    let v = u q in
+    let h : start (D v) (code v) < s v .args .walk .past = omega (arith, c .before .before .before .first .ensures, c .before .if3 .taken) in
+    λ l i w e. let k = w .kept (going v) in stops (D v) l i _ (code v) k e _ 3 (c .ended2 .ensures) (λ z. omega arith) (too-early (D v) l i _ (code v) k e (is q) h)
 
 returns-4 : tie.Need-returns-4
 returns-4 c =
-    let q = c .before .before .before .before in
-    let a = s (t q) .args in
-    let f = c .before .before .before .before .before .before .first .ensures in
-    let v = c .before .width .ensures in
-    let n = c .before .before .before .next-run .ensures in
-    λ l i w e. goes (a .depth) l i (a .walk) (a .code) w e (is (t q)) (late q) (λ x. c .before .before .if3 .left (n ∙ x)) _ refl refl (omega (arith, f, v)) n (omega (arith, v))
+    let t = c .before .before .before in
+    let v = u (p t) in
+    let r = sym (c .before .before .next-run .ensures) ∙ c .before .if4 .taken in
+    λ l i w e. let k = w .kept (going v) in stops (D v) l i _ (code v) k e _ 4 (c .ended3 .ensures) (λ z. omega arith) (eighth (D v) l i _ (code v) k e (is (p t)) (late t) r)
+
+-- ---- the leaf is passed
+
+module _ (c : tie.After-width) where
+  abbrev n : tie.After-next-run
+  n = c .before .before
+
+  abbrev t : tie.Else3
+  t = n .before
+
+  abbrev v : tie.Else1
+  v = u (p t)
+
+  -- the leaf ends where its start and its voxels say
+  ends : t .before .before .first .result + c .width .result ≡ end (D v) (code v)
+  ends = omega (arith, t .before .before .first .ensures, c .width .ensures)
+
+returns-5 : tie.Need-returns-5
+returns-5 c =
+    let x = c .before in
+    let run = n x .next-run .ensures in
+    λ l i w e.
+    goes (D (v x)) l i _ (code (v x)) (w .kept (going (v x))) e (is (p (t x))) (late (t x)) (λ z. x .before .if4 .left (run ∙ z)) _ refl refl refl (ends x) run (omega (arith, x .width .ensures))
 
 pub step-spec : {M : Type 1} → statement M
 step-spec =
     tie.close
     (tie.spec
+    (λ c. λ l i w e. stays (c .before .args .depth) l i _ w (c .if1 .taken))
     (λ c κs. search needs)
-    (λ c κs. search needs)
-    returns
-    (λ c κs. (s c .pre .0, is c))
     (λ c κs. search needs)
     returns-2
-    (λ c κs. search needs)
+    (λ c κs. (s (u c) .pre .0, is c))
     (λ c κs. search needs)
     returns-3
-    (λ c κs. let u = t (c .before .before) in (s u .pre .0, is u))
-    add-t9
-    add-t10
-    returns-4)
+    (λ c κs. kept (u (p c)) .short)
+    (λ c κs. search needs)
+    returns-4
+    (λ c κs. let q = p (c .before .before) in (s (u q) .pre .0, is q))
+    (λ c. let k = kept (v c) in omega (arith, k .is-passed, k .count, k .within, pow8-small (D (v c)) (s (v c) .pre .0)))
+    (λ c. omega (arith, ends c, small (p (t c))))
+    (λ c. let x = c .before in omega (arith, x .width .ensures, small (p (t x)), late (t x), kept (v x) .few))
+    returns-5)

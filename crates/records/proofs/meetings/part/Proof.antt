@@ -1,43 +1,33 @@
--- `records::met::part` meets its contract. Assumes nothing.
-use mathlib.Core.Path.{_≡_, refl, sym, ap, _∙_}
+-- `records::meetings::part` meets its contract. Assumes nothing.
+use mathlib.Core.Path.{_≡_, sym, ap, _∙_}
 use mathlib.Core.Bool.{true}
 use mathlib.Core.List.{List}
-use Prim.Native.Nat.{ℕ, _-_, _<_}
+use Prim.Native.Nat.{ℕ, _-_, _<_, zero-le}
+use native.Mathlib.Nat.{le-refl}
 use native.Mathlib.Omega.{arith}
 use lib.ListN.{length}
 use borrow.Author.Needs.{needs}
-use Rattle.cells.specs.Cell.{start}
+use Rattle.cells.specs.Answer.{given}
+use Rattle.cells.specs.Cell.{start, end}
 use Rattle.cells.proofs.Cells.{within}
 use Rattle.cells.proofs.Words.{pow8-small}
 use Rattle.records.specs.Inner.{Starts, reaches}
-use Rattle.records.specs.Meeting.{placed, Together}
 use Rattle.records.specs.Met.{MetPart}
-use Rattle.records.specs.declared.met.Meeting.{Meeting}
-use Rattle.records.proofs.Fault.{end}
+use Rattle.records.specs.declared.meetings.Meeting.{Meeting}
 use Rattle.records.proofs.Search.{starts-same, reaches-true, part-from, part-before}
-use Rattle.records.proofs.met.part.Statement.{statement}
-use Rattle.records.proofs.met.part.Tie as tie
-
-first-from-requires : tie.Need-first-from-requires
-first-from-requires c κs = let s = c .before .before in (s .pre .0, s .pre .1, omega arith, omega (arith, s .pre .2))
+use Rattle.records.proofs.meetings.part.Statement.{statement}
+use Rattle.records.proofs.meetings.part.Tie as tie
 
 add-first-from : tie.Need-add-first-from
 add-first-from c =
     let f = c .before .before in
     let s = f .before .before in
-    omega (arith, f .first .ensures, c .width .ensures, within (s .args .depth) (s .args .m) (s .pre .3), pow8-small (s .args .depth) (s .pre .0))
+    omega (arith, f .first .ensures, c .width .ensures, within (s .args .depth) (s .args .m) (s .pre .2), pow8-small (s .args .depth) (s .pre .0))
 
 first-from-requires-2 : tie.Need-first-from-requires-2
 first-from-requires-2 c κs =
     let s = c .before .before .before .before in
-    let f = c .before .first-from .ensures in
-    (s .pre .0, s .pre .1, omega (arith, f .high), omega (arith, f .high, s .pre .2))
-
-last-reaches-requires : tie.Need-last-reaches-requires
-last-reaches-requires c κs =
-    let w = c .before in
-    let s = w .before .before .before .before in
-    (s .pre .0, s .pre .1, omega (arith, w .before .first-from .ensures .high, s .pre .2))
+    record { shallow = s .pre .0; ordered = s .pre .1; rising = c .before .first-from .ensures .high; within = le-refl _ }
 
 -- ---- what the searches found
 
@@ -64,10 +54,10 @@ module _ (c : tie.After-last-reaches) where
   to = g .first-from2 .result
 
   begins : Starts D l (start D (s .args .m)) 0 (length l) at
-  begins = starts-same (f .before .first .ensures) (s .pre .2) (f .first-from .ensures)
+  begins = starts-same (f .before .first .ensures) (f .first-from .ensures)
 
   ends : Starts D l (end D (s .args .m)) at (length l) to
-  ends = starts-same (omega (arith, f .before .first .ensures, g .before .width .ensures)) (s .pre .2) (g .first-from2 .ensures)
+  ends = starts-same (omega (arith, f .before .first .ensures, g .before .width .ensures)) (g .first-from2 .ensures)
 
   tested : c .last-reaches .result ≡ reaches D l at (start D (s .args .m))
   tested = c .last-reaches .ensures ∙ ap (reaches D l at) (f .before .first .ensures)
@@ -76,8 +66,8 @@ module _ (c : tie.After-last-reaches) where
   some e = reaches-true D l at (start D (s .args .m)) (sym tested ∙ e) .0
 
 -- leaves at a place, told with it
-told : (D : ℕ) (l : List ℕ) (m a n : ℕ) (r : Meeting) → r ≡ placed a n → MetPart D l m a n → Together D l m r
-told D l m a n r e p = rw e (record { part = p; tells = refl })
+told : (D : ℕ) (l : List ℕ) (m a n : ℕ) (r : Meeting) → (r .answer ≡ given a) × (r .at ≡ a) × (r .n ≡ n) → MetPart D l m a n → MetPart D l m (r .at) (r .n) × (r .answer ≡ given (r .at))
+told D l m a n r (e, f, g) p = (rw (f, g) p, e ∙ ap given (sym f))
 
 returns : tie.Need-returns
 returns c =
@@ -95,12 +85,12 @@ pub part-spec : {M : Type 1} → statement M
 part-spec =
     tie.close
     (tie.spec
-    (λ c κs. search needs)
-    first-from-requires
-    (λ c κs. search needs)
+    (λ c κs. let s = c .before in (s .pre .0, s .pre .2))
+    (λ c κs. let s = c .before .before in record { shallow = s .pre .0; ordered = s .pre .1; rising = zero-le; within = le-refl _ })
+    (λ c κs. let s = c .before .before .before in (s .pre .0, s .pre .2))
     add-first-from
     first-from-requires-2
-    last-reaches-requires
+    (λ c κs. let w = c .before in let s = w .before .before .before .before in (s .pre .0, s .pre .1, w .before .first-from .ensures .high))
     (λ c. omega (arith, some (c .before) (c .if1 .taken)))
     (λ c κs. omega (arith, ends (c .before) .low))
     returns

@@ -6,7 +6,7 @@ use mathlib.Core.Logic.{_⊎_, inl, inr}
 use mathlib.Core.List.{List, [], _∷_}
 use Prim.Native.Nat.{ℕ, _+_, _^_, _≤_, _<_}
 use native.Mathlib.Omega.{arith}
-use Rattle.cells.specs.Cell.{proper, start, span, holds}
+use Rattle.cells.specs.Cell.{proper, start, span, end, holds}
 use Rattle.records.specs.Count.{count}
 use Rattle.records.specs.Record.{black, Ordered}
 use Rattle.records.specs.Inner.{volume}
@@ -18,19 +18,19 @@ use Rattle.records.proofs.Counting.{count-same, count-none, count-join,
 -- one leaf
 pub leaf-volume : (D c : ℕ) → proper D c ≡ true → count (holds D c) (8 ^ D) ≡ span D c
 unfolding holds
-leaf-volume D c p = count-interval (start D c) (start D c + span D c) (8 ^ D) ∙ omega (arith, within D c p)
+leaf-volume D c p = count-interval (start D c) (end D c) (8 ^ D) ∙ omega (arith, within D c p)
 
 -- all leaves, wherever the list begins
 pub list-volume : (D from : ℕ) (l : List ℕ) → Ordered D from l → count (black D l) (8 ^ D) ≡ volume D l
 unfolding black volume Ordered
 list-volume D from [] o = count-none (8 ^ D)
 list-volume D from (c ∷ l) (p, f, o) =
-    count-apart (holds D c) (black D l) (8 ^ D) (λ v h. apart v (le-or-lt (start D c + span D c) v))
-    ∙ ap₂ (λ (x y : ℕ). x + y) (leaf-volume D c p) (list-volume D (start D c + span D c) l o)
+    count-apart (holds D c) (black D l) (8 ^ D) (λ v h. apart v (le-or-lt (end D c) v))
+    ∙ ap₂ (λ (x y : ℕ). x + y) (leaf-volume D c p) (list-volume D (end D c) l o)
   where
-    apart : (v : ℕ) → (start D c + span D c ≤ v) ⊎ (v < start D c + span D c) → (holds D c v && black D l v) ≡ false
+    apart : (v : ℕ) → (end D c ≤ v) ⊎ (v < end D c) → (holds D c v && black D l v) ≡ false
     apart v (inl h) = rw (after-cell D c v h)
-    apart v (inr h) = rw (black-before D (start D c + span D c) l o v h) (and-false (holds D c v))
+    apart v (inr h) = rw (black-before D (end D c) l o v h) (and-false (holds D c v))
 
 -- ---- counts of black voxels, by which voxels are black
 

@@ -1,0 +1,29 @@
+-- The first number below n that has P: there is one at most, and one or none where P is decided. Assumes nothing.
+use mathlib.Core.Path.{_≡_}
+use mathlib.Core.Logic.{_⊎_, inl, inr, ⊎-elim}
+use Prim.Native.Nat.{ℕ, zero, suc, _≤_, _<_}
+use native.Mathlib.Nat.{le-refl, le-of-suc-le-suc, eq-or-lt-of-le}
+use native.Mathlib.Omega.{arith}
+use Rattle.cells.specs.Answer.{First}
+use Rattle.cells.proofs.Power.{le-or-lt}
+
+pub one-first : {n : ℕ} {P : ℕ → Type 0} (i j : ℕ) → First n P i → First n P j → i ≡ j
+one-first i j p q = go (le-or-lt i j) (le-or-lt j i)
+  where
+    go : (i ≤ j) ⊎ (j < i) → (j ≤ i) ⊎ (i < j) → i ≡ j
+    go (inl h) (inl k) = omega arith
+    go (inr h) k = absurd (p .before j h (q .here))
+    go (inl h) (inr k) = absurd (q .before i k (p .here))
+
+-- one number more
+pub first-more : {n : ℕ} {P : ℕ → Type 0} {i : ℕ} → First n P i → First (suc n) P i
+first-more f = record { below = omega (arith, f .below); here = f .here; before = f .before }
+
+pub first-or-none : (P : ℕ → Type 0) → ((j : ℕ) → P j ⊎ (P j → ⊥)) → (n : ℕ) → ((i : ℕ) × First n P i) ⊎ ((j : ℕ) → j < n → P j → ⊥)
+first-or-none P decide zero = inr (λ j h. absurd (omega arith))
+first-or-none P decide (suc n) = go (first-or-none P decide n) (decide n)
+  where
+    go : ((i : ℕ) × First n P i) ⊎ ((j : ℕ) → j < n → P j → ⊥) → P n ⊎ (P n → ⊥) → ((i : ℕ) × First (suc n) P i) ⊎ ((j : ℕ) → j < suc n → P j → ⊥)
+    go (inl (i, f)) d = inl (i, first-more f)
+    go (inr none) (inl p) = inl (n, record { below = le-refl (suc n); here = p; before = none })
+    go (inr none) (inr q) = inr (λ j h. ⊎-elim (λ (e : j ≡ n). rw e q) (λ (l : j < n). none j l) (eq-or-lt-of-le (le-of-suc-le-suc h)))
