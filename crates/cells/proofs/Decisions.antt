@@ -43,6 +43,9 @@ one-decided refuse (F ∷ Fs) P (of-f, of-fs) one r s (inr (_, p)) (inr (_, q)) 
 pub passes : {q : Answer} {C : Type 0} → (C → ⊥) → (a : Answer) → refuses q C a → ⊥
 passes n a t = n (t .0)
 
+pub passes-first : {n : ℕ} {P : ℕ → Type 0} {q : ℕ → Answer} → ((i : ℕ) → i < n → P i → ⊥) → (a : Answer) → refusesFirst n P q a → ⊥
+passes-first none a (i, f, _) = none i (f .below) (f .here)
+
 pub deep-enough : {limit D : ℕ} → D ≤ limit → limit < D → ⊥
 deep-enough h g = omega arith
 
@@ -73,6 +76,9 @@ Numbered (F ∷ Fs) = ((a : Answer) → F a → a .number ≡ 0 → ⊥) × Numb
 
 pub refuses-numbered : {q : Answer} {C : Type 0} → (q .number ≡ 0 → ⊥) → (a : Answer) → refuses q C a → a .number ≡ 0 → ⊥
 refuses-numbered n a (_, e) z = n (ap (λ (x : Answer). x .number) (sym e) ∙ z)
+
+pub refuses-first-numbered : {n : ℕ} {P : ℕ → Type 0} {q : ℕ → Answer} → ((i : ℕ) → P i → q i .number ≡ 0 → ⊥) → (a : Answer) → refusesFirst n P q a → a .number ≡ 0 → ⊥
+refuses-first-numbered some a (i, f, e) z = some i (f .here) (ap (λ (x : Answer). x .number) (sym e) ∙ z)
 
 -- all tests of a row pass
 abbrev pub Passed : List Test → Type 0

@@ -1,5 +1,5 @@
 -- The test for a first fault: it refuses no good list, and a list that it does not refuse is good. Assumes nothing.
-use mathlib.Core.Path.{_≡_, refl, sym, ap, _∙_}
+use mathlib.Core.Path.{_≡_, refl}
 use mathlib.Core.Logic.{_⊎_, inl, inr, _↔_}
 use mathlib.Core.List.{List}
 use Prim.Native.Nat.{ℕ, zero, suc, _<_}
@@ -8,6 +8,7 @@ use lib.ListN.{length}
 use Rattle.cells.specs.Answer.{First}
 use Rattle.cells.specs.declared.Answer.{Answer}
 use Rattle.cells.proofs.Firsts.{first-or-none}
+use Rattle.cells.proofs.Decisions.{passes-first, refuses-first-numbered}
 use Rattle.records.specs.Record.{Good}
 use Rattle.records.specs.Fault.{fault, Faulty}
 use Rattle.records.proofs.Fault.{faultless-good, good-faultless}
@@ -28,7 +29,7 @@ no-number (suc n) h = absurd (h (λ e. omega arith))
 module _ (D : ℕ) (l : List ℕ) (k : ℕ) where
   -- its numbers are not 0
   pub faulty-numbered : (a : Answer) → Faulty D l k a → a .number ≡ 0 → ⊥
-  faulty-numbered a (i, f, e) z = f .here (ap (λ (x : Answer). x .number) (sym e) ∙ z)
+  faulty-numbered = refuses-first-numbered (λ i bad z. bad z)
 
   pub not-faulty : ((a : Answer) → Faulty D l k a → ⊥) → Good D l
   not-faulty none = go (first-or-none (λ i. fault D l i ≡ 0 → ⊥) (λ i. some-number (fault D l i)) (length l))
@@ -38,4 +39,4 @@ module _ (D : ℕ) (l : List ℕ) (k : ℕ) where
       go (inr clean) = faultless-good D l (λ i h. no-number (fault D l i) (clean i h))
 
   pub good-passes : Good D l → (a : Answer) → Faulty D l k a → ⊥
-  good-passes g a (i, f, e) = f .here (good-faultless D l g i (f .below))
+  good-passes g = passes-first (λ i h bad. bad (good-faultless D l g i h))

@@ -15,6 +15,8 @@ pub mod Walks
 -- counts of voxels; the volume
 pub mod Counting
 pub mod Volumes
+-- lists carried voxel by voxel
+pub mod Carrying
 -- the leaves that meet a cell stand together; what the search finds
 pub mod Part
 pub mod Search

@@ -1,7 +1,7 @@
 -- Which voxels a list holds, the ordered list's first leaf, and one more leaf at its end. Assumes nothing.
 use mathlib.Core.Path.{_≡_, refl, sym, _∙_}
 use mathlib.Core.Bool.{true, false, true≢false, false≢true}
-use mathlib.Core.Logic.{_⊎_, inl, inr}
+use mathlib.Core.Logic.{_⊎_, inl, inr, ⊎-elim}
 use mathlib.Core.List.{List, [], _∷_, _++_, List·Memᴰ·tail}
 use Prim.Native.Nat.{ℕ, _+_, _-_, _^_, _≤_, _<_}
 use native.Mathlib.Omega.{arith}
@@ -53,6 +53,10 @@ unfolding black Ordered
 black-beyond D from [] o v h = refl
 black-beyond D from (c ∷ l) (p, f, o) v h =
     black-past D c l v (after-cell D c v (omega (arith, within D c p))) ∙ black-beyond D (end D c) l o v h
+
+-- so a black voxel lies in it
+pub black-in-root : (D from : ℕ) (l : List ℕ) → Ordered D from l → (v : ℕ) → black D l v ≡ true → v < 8 ^ D
+black-in-root D from l o v b = ⊎-elim (λ (h : 8 ^ D ≤ v). absurd (true≢false (sym b ∙ black-beyond D from l o v h))) (λ h. h) (le-or-lt (8 ^ D) v)
 
 -- every voxel from a up to b is black
 abbrev pub AllBlack : ℕ → List ℕ → ℕ → ℕ → Type 0
