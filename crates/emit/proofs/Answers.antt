@@ -6,15 +6,16 @@ use mathlib.Core.List.{List, [], _∷_, _++_}
 use mathlib.Core.Bool.{Bool, true, false}
 use Prim.Native.Nat.{ℕ, _^_, _<_, _≤_}
 use native.Mathlib.Omega.{arith}
-use lib.ListN.{length, drop}
+use lib.ListN.{length, take, drop}
+use lib.Seq.{sets}
 use Rattle.cells.specs.Answer.{answer, given, Decided, keeping}
 use Rattle.cells.specs.declared.Answer.{Answer}
 use Rattle.cells.proofs.Decisions.{One}
 use Rattle.records.specs.Record.{ListOf}
 use Rattle.records.specs.Writing.{Crowded, Written}
 use Rattle.records.proofs.OneList.{one-list, list-same}
-use Rattle.emit.specs.Inner.{puts, Result}
-use Rattle.emit.proofs.Puts.{puts-front}
+use Rattle.emit.specs.Inner.{Result}
+use Rattle.emit.proofs.Stores.{sets-front, sets-empty}
 
 -- the last test of a call and its success, past all other tests
 abbrev pub Told : ℕ → (ℕ → Type 0) → List ℕ → Answer × List ℕ → Type 0
@@ -28,29 +29,30 @@ module _ (D : ℕ) (Q : ℕ → Type 0) (o l : List ℕ) (x : ListOf D Q l) wher
   pub told-written : length l ≤ length o → Told D Q o (given (length l), l ++ drop (length l) o)
   told-written h = inr (λ a c. omega (arith, c .2, ap length (one-list D Q l (c .0) x (c .1))), (l, x, refl, refl))
 
--- ---- two passes of an emitter
+-- ---- two passes of an emitter: one on the empty part of the buffer, which counts, and one on all of it
 
 module _ (D : ℕ) (P : ℕ → Bool) (Q : ℕ → Type 0) (exactly : (v : ℕ) → v < 8 ^ D → (P v ≡ true) ↔ Q v) where
   -- what is put is the list of the voxels that have Q
-  pub result-list : {write : Bool} {o out : List ℕ} {n : ℕ} (x : Result D P write o out n) → ListOf D Q (x .cells)
+  pub result-list : {o out : List ℕ} {n : ℕ} (x : Result D P o out n) → ListOf D Q (x .cells)
   result-list x = list-same D (λ v. P v ≡ true) Q (x .cells) exactly (record { good = x .good; exactly = λ v h. let e = x .same v h in (λ b. sym e ∙ b, λ p. e ∙ p) })
 
-  module _ (o out : List ℕ) (n : ℕ) (counted : Result D P false o out n) where
-    -- the pass that only counts finds too little room
-    pub crowded : length out < n → Told D Q o (answer 8 n 0, out)
-    crowded h =
-        let kept : out ≡ o = counted .written in
-        rw (counted .count, kept) (told-crowded D Q o (counted .cells) (result-list counted) (omega (arith, counted .count, ap length kept)))
+  -- after the first pass the buffer is the part lent, none of it, and all the rest
+  module _ {o part : List ℕ} {n : ℕ} (counted : Result D P (take 0 o) part n) where
+    untouched : part ++ drop 0 o ≡ o
+    untouched = ap (λ (b : List ℕ). b ++ o) (counted .written ∙ sets-empty 0 (counted .cells))
+
+    -- it finds too little room
+    pub crowded : {a : Answer} → a ≡ answer 8 n 0 → length (part ++ drop 0 o) < n → Told D Q o (a, part ++ drop 0 o)
+    crowded e h = rw (e, counted .count, untouched) (told-crowded D Q o (counted .cells) (result-list counted) (omega (arith, counted .count, ap length untouched)))
 
     -- it finds room, and the second pass writes
-    pub written : (out′ : List ℕ) (n′ : ℕ) → n ≤ length out → Result D P true out out′ n′ → Told D Q o (given n′, out′)
-    written out′ n′ h wrote =
+    pub written : {a : Answer} {out : List ℕ} {n′ : ℕ} → a ≡ given n′ → n ≤ length (part ++ drop 0 o) → Result D P (part ++ drop 0 o) out n′ → Told D Q o (a, out)
+    written {a} {out} e h wrote =
         let l : List ℕ = wrote .cells in
-        let kept : out ≡ o = counted .written in
         let same : counted .cells ≡ l = one-list D Q _ _ (result-list counted) (result-list wrote) in
-        let room : length l ≤ length o = omega (arith, ap length same, ap length kept, counted .count) in
-        let front : out′ ≡ l ++ drop (length l) o = wrote .written ∙ ap (λ (b : List ℕ). puts true b 0 l) kept ∙ puts-front o l room in
-        rw (wrote .count, front) (told-written D Q o l (result-list wrote) room)
+        let room : length l ≤ length o = omega (arith, ap length same, ap length untouched, counted .count) in
+        let front : out ≡ l ++ drop (length l) o = wrote .written ∙ ap (λ (b : List ℕ). sets b 0 l) untouched ∙ sets-front o l room in
+        rw (e, wrote .count, front) (told-written D Q o l (result-list wrote) room)
 
 -- ---- no second answer fits
 

@@ -16,29 +16,29 @@ pub child-within : (i w : ℕ) → i < 8 → i * w + w ≤ 8 * w
 child-within i w h = omega (arith, mul-le-mul-right w h, suc-mul i w)
 
 -- the children before voxel p, i of them, have been fed
-pub record Children (D : ℕ) (P : ℕ → Bool) (write : Bool) (from : ℕ) (out₀ : List ℕ) (r₀ : Runs) (w : ℕ) (out : List ℕ) (r : Runs) (p i : ℕ) : Type 0 where
-  pub fed : Fed D P write from p out₀ r₀ out r
+pub record Children (D : ℕ) (P : ℕ → Bool) (from : ℕ) (out₀ : List ℕ) (r₀ : Runs) (w : ℕ) (out : List ℕ) (r : Runs) (p i : ℕ) : Type 0 where
+  pub fed : Fed D P from p out₀ r₀ out r
   pub place : p ≡ from + i * w
   pub turns : i ≤ 8
   pub size : length out ≡ length out₀
 
-module _ {D : ℕ} {P : ℕ → Bool} {write : Bool} {from : ℕ} {out₀ : List ℕ} {r₀ : Runs} {w : ℕ} where
-  pub children-none : Ready D r₀ from → Children D P write from out₀ r₀ w out₀ r₀ from 0
-  children-none h = record { fed = fed-none D P write from out₀ r₀ h; place = omega (arith, zero-mul w); turns = omega arith; size = refl }
+module _ {D : ℕ} {P : ℕ → Bool} {from : ℕ} {out₀ : List ℕ} {r₀ : Runs} {w : ℕ} where
+  pub children-none : Ready D r₀ from → Children D P from out₀ r₀ w out₀ r₀ from 0
+  children-none h = record { fed = fed-none D P from out₀ r₀ h; place = omega (arith, zero-mul w); turns = omega arith; size = refl }
 
-  module _ {out : List ℕ} {r : Runs} {p i : ℕ} (c : Children D P write from out₀ r₀ w out r p i) where
+  module _ {out : List ℕ} {r : Runs} {p i : ℕ} (c : Children D P from out₀ r₀ w out r p i) where
     -- one child more, of span u
-    pub children-more : {u : ℕ} {out′ : List ℕ} {s : Runs} → i < 8 → w ≡ u → length out′ ≡ length out → Fed D P write p (p + u) out r out′ s → Children D P write from out₀ r₀ w out′ s (p + w) (i + 1)
+    pub children-more : {u : ℕ} {out′ : List ℕ} {s : Runs} → i < 8 → w ≡ u → length out′ ≡ length out → Fed D P p (p + u) out r out′ s → Children D P from out₀ r₀ w out′ s (p + w) (i + 1)
     children-more {u} {out′} {s} h e g x = record {
-      fed = fed-then D P write (c .fed) (subst (λ (y : ℕ). Fed D P write p (p + y) out r out′ s) (sym e) x);
+      fed = fed-then D P (c .fed) (subst (λ (y : ℕ). Fed D P p (p + y) out r out′ s) (sym e) x);
       place = omega (arith, c .place, suc-mul i w, ap (λ (m : ℕ). m * w) (add-one i));
       turns = omega arith;
       size = g ∙ c .size;
     }
 
     -- all eight, of span u together
-    pub children-all : (u : ℕ) → 8 ≤ i → u ≡ 8 * w → Fed D P write from (from + u) out₀ r₀ out r
+    pub children-all : (u : ℕ) → 8 ≤ i → u ≡ 8 * w → Fed D P from (from + u) out₀ r₀ out r
     children-all u h e =
         let j : i ≡ 8 = omega (arith, c .turns) in
         let z : p ≡ from + u = omega (arith, c .place, ap (λ (m : ℕ). m * w) j) in
-        subst (λ (y : ℕ). Fed D P write from y out₀ r₀ out r) z (c .fed)
+        subst (λ (y : ℕ). Fed D P from y out₀ r₀ out r) z (c .fed)

@@ -6,7 +6,8 @@ use mathlib.Core.Logic.{_⊎_, inl, inr, ⊎-elim}
 use Prim.Native.Nat.{ℕ, zero, suc, _+_, _-_, _*_, _/_, _^_, _<_, _≤_}
 use native.Mathlib.Nat.{add-mul, mul-div-cancel, le-of-mul-le-mul-right, suc-mul, add-zero}
 use native.Mathlib.Omega.{arith}
-use lib.ListN.{length-append}
+use lib.ListN.{set, length-append}
+use lib.Seq.{sets}
 use Rattle.cells.specs.Cell.{level, proper, span, start, holds}
 use Rattle.cells.proofs.Bools.{clash}
 use Rattle.cells.proofs.Power.{le-or-lt, pow8-pos, pow8-le-inv, pow8-split}
@@ -16,8 +17,8 @@ use Rattle.records.proofs.Lists.{holds-true, held, before-cell, after-cell, bla
 use Rattle.records.proofs.Leaves.{member, member-black}
 use Rattle.records.proofs.Fill.{black-append, in-child}
 use Rattle.emit.specs.declared.inner.Runs.{Runs}
-use Rattle.emit.specs.Inner.{puts, Fit, White, Ready, fresh, Emitted, Fed, Result}
-use Rattle.emit.proofs.Puts.{puts-none, puts-append}
+use Rattle.emit.specs.Inner.{Fit, White, Ready, fresh, Emitted, Fed, Result}
+use Rattle.emit.proofs.Stores.{sets-append}
 
 -- ---- cells
 
@@ -80,9 +81,9 @@ module _ (D p to w : ℕ) (root : to ≤ 8 ^ D) (f : Fit p to w) where
 
 -- ---- the emitter's state
 
-module _ (D : ℕ) (P : ℕ → Bool) (write : Bool) (o : List ℕ) where
+module _ (D : ℕ) (P : ℕ → Bool) (o : List ℕ) where
   -- nothing yet
-  pub emit-none : Emitted D P write o o 0 (fresh 0 0)
+  pub emit-none : Emitted D P o o 0 (fresh 0 0)
   unfolding Ordered black
   emit-none = record {
     cells = [];
@@ -93,11 +94,11 @@ module _ (D : ℕ) (P : ℕ → Bool) (write : Bool) (o : List ℕ) where
     gap = λ v a b. absurd (omega arith);
     capped = λ q m. absurd (List·Memᴰ·not-nil m);
     count = refl;
-    written = puts-none write o 0;
+    written = refl;
   }
 
   -- a white piece [pos, to): only the position moves
-  pub emit-white : (out : List ℕ) (pos to : ℕ) (r : Runs) → ((v : ℕ) → pos ≤ v → v < to → P v ≡ false) → Emitted D P write o out pos r → Emitted D P write o out to r
+  pub emit-white : (out : List ℕ) (pos to : ℕ) (r : Runs) → ((v : ℕ) → pos ≤ v → v < to → P v ≡ false) → Emitted D P o out pos r → Emitted D P o out to r
   emit-white out pos to r white e = record {
     cells = e .cells;
     ordered = e .ordered;
@@ -112,7 +113,7 @@ module _ (D : ℕ) (P : ℕ → Bool) (write : Bool) (o : List ℕ) where
 
   -- a black piece [pos, to) goes on with a pending run that ends at pos
   pub emit-black : (out : List ℕ) (pos to from at : ℕ) → ((v : ℕ) → pos ≤ v → v < to → P v ≡ true)
-      → Emitted D P write o out pos (record { from = from; to = pos; at = at }) → Emitted D P write o out to (record { from = from; to = to; at = at })
+      → Emitted D P o out pos (record { from = from; to = pos; at = at }) → Emitted D P o out to (record { from = from; to = to; at = at })
   emit-black out pos to from at full e = record {
     cells = e .cells;
     ordered = e .ordered;
@@ -126,8 +127,8 @@ module _ (D : ℕ) (P : ℕ → Bool) (write : Bool) (o : List ℕ) where
   }
 
   -- the next cell of a pending run that is over
-  pub emit-cell : (out out′ : List ℕ) (pos p to n w : ℕ) → to ≤ 8 ^ D → (to < 8 ^ D → to < pos) → Fit p to w → out′ ≡ puts write out n ((8 ^ D + p) / w ∷ [])
-      → Emitted D P write o out pos (record { from = p; to = to; at = n }) → Emitted D P write o out′ pos (record { from = p + w; to = to; at = n + 1 })
+  pub emit-cell : (out out′ : List ℕ) (pos p to n w : ℕ) → to ≤ 8 ^ D → (to < 8 ^ D → to < pos) → Fit p to w → out′ ≡ set out n ((8 ^ D + p) / w)
+      → Emitted D P o out pos (record { from = p; to = to; at = n }) → Emitted D P o out′ pos (record { from = p + w; to = to; at = n + 1 })
   emit-cell out out′ pos p to n w root over f put e = record {
     cells = l ++ (c ∷ []);
     ordered = ordered-snoc D 0 p l c (e .ordered) (e .above) (x .is-proper) (omega arith) (omega (arith, x .is-start));
@@ -139,7 +140,7 @@ module _ (D : ℕ) (P : ℕ → Bool) (write : Bool) (o : List ℕ) where
     gap = e .gap;
     capped = λ q m. ⊎-elim (λ a. e .capped q a) (λ b. ends q (List·Memᴰ·eq-of-singleton b)) (List·Memᴰ·append-cases l m);
     count = omega (arith, e .count, length-append l (c ∷ []));
-    written = put ∙ ap (λ (x : List ℕ). puts write x n (c ∷ [])) (e .written) ∙ ap (λ (k : ℕ). puts write (puts write o 0 l) k (c ∷ [])) (omega (arith, e .count)) ∙ sym (puts-append write o 0 l (c ∷ []));
+    written = put ∙ ap (λ (x : List ℕ). set x n c) (e .written) ∙ ap (λ (k : ℕ). set (sets o 0 l) k c) (omega (arith, e .count)) ∙ sym (sets-append o 0 l (c ∷ []));
   }
     where
       l : List ℕ
@@ -162,7 +163,7 @@ module _ (D : ℕ) (P : ℕ → Bool) (write : Bool) (o : List ℕ) where
       ends q m = let (a, b) = fitted-capped D p to w root f q m in record { voxel = to; inside = b; white = e .gap to (omega arith) (over a) }
 
   -- the pending run is all written, and the white voxels up to pos are behind it
-  pub emit-flushed : (out : List ℕ) (pos p to n : ℕ) → p ≡ to → to ≤ pos → Emitted D P write o out pos (record { from = p; to = to; at = n }) → Emitted D P write o out pos (fresh pos n)
+  pub emit-flushed : (out : List ℕ) (pos p to n : ℕ) → p ≡ to → to ≤ pos → Emitted D P o out pos (record { from = p; to = to; at = n }) → Emitted D P o out pos (fresh pos n)
   emit-flushed out pos p to n same past e = record {
     cells = e .cells;
     ordered = e .ordered;
@@ -189,7 +190,7 @@ module _ (D : ℕ) (P : ℕ → Bool) (write : Bool) (o : List ℕ) where
       clash (member-black D (8 * q + j) l (a .voxel) (all j h) k) (same (a .voxel) inside ∙ a .white)
 
   -- all is known, and no run is pending
-  pub emit-done : (out : List ℕ) (n : ℕ) → Emitted D P write o out (8 ^ D) (fresh (8 ^ D) n) → Result D P write o out n
+  pub emit-done : (out : List ℕ) (n : ℕ) → Emitted D P o out (8 ^ D) (fresh (8 ^ D) n) → Result D P o out n
   emit-done out n e = record {
     cells = e .cells;
     good = record { ordered = e .ordered; condensed = capped-condensed (e .cells) (e .ordered) (e .below) (e .capped) };
@@ -200,22 +201,22 @@ module _ (D : ℕ) (P : ℕ → Bool) (write : Bool) (o : List ℕ) where
 
 -- ---- writers
 
-module _ (D : ℕ) (P : ℕ → Bool) (write : Bool) where
+module _ (D : ℕ) (P : ℕ → Bool) where
   -- nothing is read
-  pub fed-none : (from : ℕ) (out : List ℕ) (r : Runs) → Ready D r from → Fed D P write from from out r out r
+  pub fed-none : (from : ℕ) (out : List ℕ) (r : Runs) → Ready D r from → Fed D P from from out r out r
   fed-none from out r h = record { ready = h; emits = λ o e. e }
 
   -- white voxels are passed over
-  pub fed-white : (from to : ℕ) (out : List ℕ) (r : Runs) → from ≤ to → to ≤ 8 ^ D → ((v : ℕ) → from ≤ v → v < to → P v ≡ false) → Ready D r from → Fed D P write from to out r out r
+  pub fed-white : (from to : ℕ) (out : List ℕ) (r : Runs) → from ≤ to → to ≤ 8 ^ D → ((v : ℕ) → from ≤ v → v < to → P v ≡ false) → Ready D r from → Fed D P from to out r out r
   fed-white from to out r a b white h = record {
     ready = record { run = h .run; past = omega (arith, h .past); few = h .few; root = b };
-    emits = λ o e. emit-white D P write o out from to r white e;
+    emits = λ o e. emit-white D P o out from to r white e;
   }
 
   -- one writer after the other
-  pub fed-then : {a b c : ℕ} {out₁ out₂ out₃ : List ℕ} {r₁ r₂ r₃ : Runs} → Fed D P write a b out₁ r₁ out₂ r₂ → Fed D P write b c out₂ r₂ out₃ r₃ → Fed D P write a c out₁ r₁ out₃ r₃
+  pub fed-then : {a b c : ℕ} {out₁ out₂ out₃ : List ℕ} {r₁ r₂ r₃ : Runs} → Fed D P a b out₁ r₁ out₂ r₂ → Fed D P b c out₂ r₂ out₃ r₃ → Fed D P a c out₁ r₁ out₃ r₃
   fed-then x y = record { ready = y .ready; emits = λ o e. y .emits o (x .emits o e) }
 
   -- a writer of all voxels
-  pub fed-all : (o out : List ℕ) (r : Runs) → Fed D P write 0 (8 ^ D) o (fresh 0 0) out r → Emitted D P write o out (8 ^ D) r
-  fed-all o out r x = x .emits o (emit-none D P write o)
+  pub fed-all : (o out : List ℕ) (r : Runs) → Fed D P 0 (8 ^ D) o (fresh 0 0) out r → Emitted D P o out (8 ^ D) r
+  fed-all o out r x = x .emits o (emit-none D P o)

@@ -9,11 +9,6 @@ use Rattle.cells.specs.Cell.{holds}
 use Rattle.records.specs.Record.{black, Ordered, Good}
 use Rattle.emit.specs.declared.inner.Runs.{Runs}
 
--- the codes l stored from place n on, where they are to be written; a place past the end changes nothing
-abbrev pub puts : Bool → List ℕ → ℕ → List ℕ → List ℕ
-puts true out n l = sets out n l
-puts false out n l = out
-
 -- w is the span of the biggest cell that starts at p and ends at or before `to`
 pub record Fit (p to w : ℕ) : Type 0 where
   pub k : ℕ
@@ -42,7 +37,7 @@ fresh pos n = record { from = pos; to = pos; at = n }
 
 -- The emitter's state where P is known below pos: the codes `cells` are put over o, and hold the voxels of P below `from`;
 -- [from, to) is black and [to, pos) white; the parent of each first child among the codes has a white voxel.
-pub record Emitted (D : ℕ) (P : ℕ → Bool) (write : Bool) (o out : List ℕ) (pos : ℕ) (r : Runs) : Type 0 where
+pub record Emitted (D : ℕ) (P : ℕ → Bool) (o out : List ℕ) (pos : ℕ) (r : Runs) : Type 0 where
   pub cells : List ℕ
   pub ordered : Ordered D 0 cells
   pub below : (v : ℕ) → v < r .from → black D cells v ≡ P v
@@ -51,18 +46,18 @@ pub record Emitted (D : ℕ) (P : ℕ → Bool) (write : Bool) (o out : List ℕ
   pub gap : (v : ℕ) → r .to ≤ v → v < pos → P v ≡ false
   pub capped : (q : ℕ) → List·Memᴰ (8 * q) cells → White D P q
   pub count : r .at ≡ length cells
-  pub written : out ≡ puts write o 0 cells
+  pub written : out ≡ sets o 0 cells
 
 -- What any writer does that goes through the voxels from `from` up to `to` and feeds the emitter with P's colours there: it takes the state r to s.
 -- Writers one after the other make one writer; `finish` ends them all.
-pub record Fed (D : ℕ) (P : ℕ → Bool) (write : Bool) (from to : ℕ) (out : List ℕ) (r : Runs) (out′ : List ℕ) (s : Runs) : Type 0 where
+pub record Fed (D : ℕ) (P : ℕ → Bool) (from to : ℕ) (out : List ℕ) (r : Runs) (out′ : List ℕ) (s : Runs) : Type 0 where
   pub ready : Ready D s to
-  pub emits : (o : List ℕ) → Emitted D P write o out from r → Emitted D P write o out′ to s
+  pub emits : (o : List ℕ) → Emitted D P o out from r → Emitted D P o out′ to s
 
 -- the end: the good list of the voxels of P is put over o, and n is its length
-pub record Result (D : ℕ) (P : ℕ → Bool) (write : Bool) (o out : List ℕ) (n : ℕ) : Type 0 where
+pub record Result (D : ℕ) (P : ℕ → Bool) (o out : List ℕ) (n : ℕ) : Type 0 where
   pub cells : List ℕ
   pub good : Good D cells
   pub same : (v : ℕ) → v < 8 ^ D → black D cells v ≡ P v
   pub count : n ≡ length cells
-  pub written : out ≡ puts write o 0 cells
+  pub written : out ≡ sets o 0 cells

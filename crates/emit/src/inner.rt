@@ -3,10 +3,11 @@
 use cells::inner::pow8;
 ghost use mathlib.Core.Path.{_≡_};
 ghost use mathlib.Core.Bool.{Bool};
-ghost use mathlib.Core.List.{List, [], _∷_};
+ghost use mathlib.Core.List.{List};
 ghost use Prim.Native.Nat.{ℕ, _≤_, _<_, _^_};
+ghost use lib.ListN.{set};
 ghost use Rattle.cells.specs.Answer.{deepest};
-ghost use Rattle.emit.specs.Inner.{puts, Fit, Ready, fresh, Emitted, Fed, Result};
+ghost use Rattle.emit.specs.Inner.{Fit, Ready, fresh, Emitted, Fed, Result};
 
 // The pending black run [from, to), and how many codes stand before it.
 pub struct Runs {
@@ -15,14 +16,12 @@ pub struct Runs {
     pub at: usize,
 }
 
-// The code at place n, if it is to be written and there is room.
-fn put(out: &mut [u32], n: usize, code: u32, write: bool)
-    ensures { λ _. ⌜ now (out .exit) ≡ puts write (now (out .entry)) n (code ∷ []) ⌝ }
+// The code at place n, where there is room.
+fn put(out: &mut [u32], n: usize, code: u32)
+    ensures { λ _. ⌜ now (out .exit) ≡ set (now (out .entry)) n code ⌝ }
 {
-    if write {
-        if n < out.len() {
-            out[n] = code;
-        }
+    if n < out.len() {
+        out[n] = code;
     }
 }
 
@@ -44,9 +43,9 @@ fn fit(p: u32, to: u32) -> u32
 }
 
 // The pending run as cells, biggest first, where all voxels below pos are known and the run is over: how many codes stand then.
-fn flush(depth: u32, r: Runs, pos: u32, out: &mut [u32], write: bool) -> usize
+fn flush(depth: u32, r: Runs, pos: u32, out: &mut [u32]) -> usize
     requires { ⌜ (depth ≤ deepest) × Ready depth r pos × (r .to < 8 ^ depth → r .to < pos) ⌝ }
-    ensures { λ n. ⌜ ((P : ℕ → Bool) → Fed depth P write pos pos (now (out .entry)) r (now (out .exit)) (fresh pos n)) ⌝ }
+    ensures { λ n. ⌜ ((P : ℕ → Bool) → Fed depth P pos pos (now (out .entry)) r (now (out .exit)) (fresh pos n)) ⌝ }
 {
     let full = pow8(depth);
     let to = r.to;
@@ -54,7 +53,7 @@ fn flush(depth: u32, r: Runs, pos: u32, out: &mut [u32], write: bool) -> usize
     let mut n = r.at;
     while p < to {
         let w = fit(p, to);
-        put(out, n, (full + p) / w, write);
+        put(out, n, (full + p) / w);
         n += 1;
         p += w;
     }
@@ -69,11 +68,10 @@ pub fn push(
     from: u32,
     to: u32,
     out: &mut [u32],
-    write: bool,
 ) -> Runs
     requires { ⌜ (depth ≤ deepest) × Ready depth r from × (from < to) × (to ≤ 8 ^ depth) ⌝ }
     ensures { λ s. ⌜ ((P : ℕ → Bool) → ((v : ℕ) → from ≤ v → v < to → P v ≡ black) →
-        Fed depth P write from to (now (out .entry)) r (now (out .exit)) s) ⌝ }
+        Fed depth P from to (now (out .entry)) r (now (out .exit)) s) ⌝ }
 {
     if !black {
         return r;
@@ -85,7 +83,7 @@ pub fn push(
             at: r.at,
         };
     }
-    let at = flush(depth, r, from, out, write);
+    let at = flush(depth, r, from, out);
     Runs {
         from: from,
         to: to,
@@ -94,10 +92,10 @@ pub fn push(
 }
 
 // The end, where all voxels are known: the last run is written, and the leaves are counted.
-pub fn finish(depth: u32, r: Runs, out: &mut [u32], write: bool) -> usize
+pub fn finish(depth: u32, r: Runs, out: &mut [u32]) -> usize
     requires { ⌜ (depth ≤ deepest) × Ready depth r (8 ^ depth) ⌝ }
     ensures { λ n. ⌜ ((P : ℕ → Bool) (o : List ℕ) →
-        Emitted depth P write o (now (out .entry)) (8 ^ depth) r → Result depth P write o (now (out .exit)) n) ⌝ }
+        Emitted depth P o (now (out .entry)) (8 ^ depth) r → Result depth P o (now (out .exit)) n) ⌝ }
 {
-    flush(depth, r, pow8(depth), out, write)
+    flush(depth, r, pow8(depth), out)
 }

@@ -33,11 +33,11 @@ fn move_whole(depth: u32, list: &[u32], dx: i32, dy: i32, dz: i32, out: &mut [u3
         return refusal(7, i as u64, 1);
     }
     let w = backwards(depth, x, y, z);
-    let need = shift_list(depth, list, w, out, false);
+    let need = shift_list(depth, list, w, &mut out[..0]);
     if out.len() < need {
         return refusal(8, need as u64, 0);
     }
-    let place = shift_list(depth, list, w, out, true);
+    let place = shift_list(depth, list, w, out);
     success(place as u64)
 }
 

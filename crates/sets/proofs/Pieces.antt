@@ -60,16 +60,16 @@ module _ (op : Op) (D : ℕ) (a b : List ℕ) where
   }
 
   -- the sweep's state at voxel v
-  pub record Swept (write : Bool) (o : List ℕ) (out : List ℕ) (r : Runs) (x y : Cursor) (v : ℕ) : Type 0 where
-    pub fed : Fed D (both op D a b) write 0 v o (fresh 0 0) out r
+  pub record Swept (o : List ℕ) (out : List ℕ) (r : Runs) (x y : Cursor) (v : ℕ) : Type 0 where
+    pub fed : Fed D (both op D a b) 0 v o (fresh 0 0) out r
     pub left : Points D a x v
     pub right : Points D b y v
 
   -- over what is white in both lists
-  pub jump : (write : Bool) (o out : List ℕ) (r : Runs) (x y : Cursor) (v w : ℕ) → w ≡ max v (min (x .from) (y .from)) → Swept write o out r x y v → Swept write o out r x y w
+  pub jump : (o out : List ℕ) (r : Runs) (x y : Cursor) (v w : ℕ) → w ≡ max v (min (x .from) (y .from)) → Swept o out r x y v → Swept o out r x y w
   unfolding both
-  jump write o out r x y v w e s = record {
-    fed = fed-then D (both op D a b) write (s .fed) (fed-white D (both op D a b) write v w out r (omega arith) (omega (arith, s .fed .ready .root, p .order, p .behind .root)) white (s .fed .ready));
+  jump o out r x y v w e s = record {
+    fed = fed-then D (both op D a b) (s .fed) (fed-white D (both op D a b) v w out r (omega arith) (omega (arith, s .fed .ready .root, p .order, p .behind .root)) white (s .fed .ready));
     left = points-later D a x v p w (omega arith) (reached p (omega arith));
     right = points-later D b y v q w (omega arith) (reached q (omega arith));
   }

@@ -104,10 +104,10 @@ fn look(c: Cursor, v: u32) -> Side
     }
 }
 
-// The good list of the voxels that op takes: its length, and, with `write`, its codes as far as there is room.
-fn sweep(op: Op, depth: u32, a: &[u32], b: &[u32], out: &mut [u32], write: bool) -> usize
+// The good list of the voxels that op takes: its length, and its codes in `out`, as far as there is room.
+fn sweep(op: Op, depth: u32, a: &[u32], b: &[u32], out: &mut [u32]) -> usize
     requires { ⌜ (depth ≤ deepest) × Ordered depth 0 (now a) × Ordered depth 0 (now b) ⌝ }
-    ensures { λ n. ⌜ Result depth (both op depth (now (a .entry)) (now (b .entry))) write (now (out .entry)) (now (out .exit)) n ⌝ }
+    ensures { λ n. ⌜ Result depth (both op depth (now (a .entry)) (now (b .entry))) (now (out .entry)) (now (out .exit)) n ⌝ }
 {
     let full = pow8(depth);
     let mut r = Runs {
@@ -122,24 +122,25 @@ fn sweep(op: Op, depth: u32, a: &[u32], b: &[u32], out: &mut [u32], write: bool)
         let s = look(x, v);
         let t = look(y, v);
         let next = least(s.until, t.until);
-        r = push(depth, r, takes(op, s.black, t.black), v, next, out, write);
+        r = push(depth, r, takes(op, s.black, t.black), v, next, out);
         x = pass(depth, a, x, next);
         y = pass(depth, b, y, next);
         v = greatest(next, least(x.from, y.from));
     }
-    finish(depth, r, out, write)
+    finish(depth, r, out)
 }
 
 // The good list of the voxels that op takes, at the front of `out`; where it does not fit, `out` stays as it is.
+// The first sweep counts: it has the empty part of `out`, into which nothing is put.
 pub fn combine(op: Op, depth: u32, a: &[u32], b: &[u32], out: &mut [u32]) -> Answer
     requires { ⌜ (depth ≤ deepest) × Ordered depth 0 (now a) × Ordered depth 0 (now b) ⌝ }
     ensures { λ r. ⌜ Decided (keeping (now (out .entry))) (Crowded depth (Taken op depth (now (a .entry)) (now (b .entry))) (now (out .entry)) ∷ [])
         (Written depth (Taken op depth (now (a .entry)) (now (b .entry))) (now (out .entry))) (r, now (out .exit)) ⌝ }
 {
-    let need = sweep(op, depth, a, b, out, false);
+    let need = sweep(op, depth, a, b, &mut out[..0]);
     if out.len() < need {
         return refusal(8, need as u64, 0);
     }
-    let place = sweep(op, depth, a, b, out, true);
+    let place = sweep(op, depth, a, b, out);
     success(place as u64)
 }

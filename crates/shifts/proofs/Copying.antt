@@ -21,7 +21,7 @@ use Rattle.shifts.specs.declared.inner.slots.Slot.{Slot}
 use Rattle.shifts.proofs.Parts.{part-off, part-white, part-black, black-at}
 
 -- the leaves from place lo on and before place i are copied, up to voxel p
-pub record Copied (D : ℕ) (l : List ℕ) (base w from : ℕ) (write : Bool) (out₀ : List ℕ) (r₀ : Runs) (lo hi : ℕ) (out : List ℕ) (r : Runs) (i : ℕ) : Type 0 where
+pub record Copied (D : ℕ) (l : List ℕ) (base w from : ℕ) (out₀ : List ℕ) (r₀ : Runs) (lo hi : ℕ) (out : List ℕ) (r : Runs) (i : ℕ) : Type 0 where
   pub p : ℕ
   pub low : from ≤ p
   pub top : p ≤ from + w
@@ -30,11 +30,11 @@ pub record Copied (D : ℕ) (l : List ℕ) (base w from : ℕ) (write : Bool) (o
   pub before : (j : ℕ) → lo ≤ j → j < i → start D (getD l j 0) + span D (getD l j 0) ≤ base + (p - from)
   pub next : (j : ℕ) → i ≤ j → j < hi → base + (p - from) ≤ start D (getD l j 0)
   pub ready : Ready D r p
-  pub fed : (P : ℕ → Bool) → Copies D l base from w P → Fed D P write from p out₀ r₀ out r
+  pub fed : (P : ℕ → Bool) → Copies D l base from w P → Fed D P from p out₀ r₀ out r
   pub size : length out ≡ length out₀
 
-module _ {D base w from : ℕ} {l : List ℕ} {s : Slot} {write : Bool} {out₀ : List ℕ} {r₀ : Runs} (o : Ordered D 0 l) (x : Inside D l base w s) (root : from + w ≤ 8 ^ D) where
-  pub copied-none : Ready D r₀ from → Copied D l base w from write out₀ r₀ (s .lo) (s .hi) out₀ r₀ (s .lo)
+module _ {D base w from : ℕ} {l : List ℕ} {s : Slot} {out₀ : List ℕ} {r₀ : Runs} (o : Ordered D 0 l) (x : Inside D l base w s) (root : from + w ≤ 8 ^ D) where
+  pub copied-none : Ready D r₀ from → Copied D l base w from out₀ r₀ (s .lo) (s .hi) out₀ r₀ (s .lo)
   copied-none h = record {
     p = from;
     low = omega arith;
@@ -44,11 +44,11 @@ module _ {D base w from : ℕ} {l : List ℕ} {s : Slot} {write : Bool} {out₀ 
     before = λ j a b. absurd (omega arith);
     next = λ j a b. omega (arith, x .low j a b);
     ready = h;
-    fed = λ P _. fed-none D P write from out₀ r₀ h;
+    fed = λ P _. fed-none D P from out₀ r₀ h;
     size = refl;
   }
 
-  module _ {out : List ℕ} {r : Runs} {i : ℕ} (k : Copied D l base w from write out₀ r₀ (s .lo) (s .hi) out r i) where
+  module _ {out : List ℕ} {r : Runs} {i : ℕ} (k : Copied D l base w from out₀ r₀ (s .lo) (s .hi) out r i) where
     -- white from p up to where the next leaf is copied to, or the end
     gap : (P : ℕ → Bool) → Copies D l base from w P → (v : ℕ) → v ≤ from + w → ((j : ℕ) → i ≤ j → j < s .hi → base + (v - from) ≤ start D (getD l j 0)) → (u : ℕ) → k .p ≤ u → u < v → P u ≡ false
     gap P h v g after u a b =
@@ -93,8 +93,8 @@ module _ {D base w from : ℕ} {l : List ℕ} {s : Slot} {write : Bool} {out₀ 
 
       -- the leaf is pushed: u is where it starts and y its span, as the code has them
       pub copied-next : {out′ : List ℕ} {t : Runs} (u y : ℕ) → u ≡ start D leaf → y ≡ span D leaf → length out′ ≡ length out
-          → ((P : ℕ → Bool) → ((v : ℕ) → from + (u - base) ≤ v → v < from + (u - base) + y → P v ≡ true) → Fed D P write (from + (u - base)) (from + (u - base) + y) out r out′ t)
-          → Copied D l base w from write out₀ r₀ (s .lo) (s .hi) out′ t (i + 1)
+          → ((P : ℕ → Bool) → ((v : ℕ) → from + (u - base) ≤ v → v < from + (u - base) + y → P v ≡ true) → Fed D P (from + (u - base)) (from + (u - base) + y) out r out′ t)
+          → Copied D l base w from out₀ r₀ (s .lo) (s .hi) out′ t (i + 1)
       copied-next {out′} {t} u y eu ey same push = record {
         p = place + span D leaf;
         low = omega arith;
@@ -109,13 +109,13 @@ module _ {D base w from : ℕ} {l : List ℕ} {s : Slot} {write : Bool} {out₀ 
         next = λ j a b. omega (arith, in-order D 0 l o i j (omega arith) (omega (arith, x .part .within)), leaf-low);
         ready = pushed (λ v. true) (λ v a b. refl) .ready;
         fed = λ P h.
-            fed-then D P write
-            (fed-then D P write (k .fed P h) (fed-white D P write (k .p) place out r leaf-past (omega (arith, leaf-top)) (gap P h place (omega (arith, leaf-top)) after) (k .ready)))
+            fed-then D P
+            (fed-then D P (k .fed P h) (fed-white D P (k .p) place out r leaf-past (omega (arith, leaf-top)) (gap P h place (omega (arith, leaf-top)) after) (k .ready)))
             (pushed P (leaf-black P h));
         size = same ∙ k .size;
       }
         where
-          pushed : (P : ℕ → Bool) → ((v : ℕ) → place ≤ v → v < place + span D leaf → P v ≡ true) → Fed D P write place (place + span D leaf) out r out′ t
+          pushed : (P : ℕ → Bool) → ((v : ℕ) → place ≤ v → v < place + span D leaf → P v ≡ true) → Fed D P place (place + span D leaf) out r out′ t
           pushed = rw (eu, ey) at push
 
           after : (j : ℕ) → i ≤ j → j < s .hi → base + (place - from) ≤ start D (getD l j 0)
@@ -125,10 +125,10 @@ module _ {D base w from : ℕ} {l : List ℕ} {s : Slot} {write : Bool} {out₀ 
               (λ (e : i < j). omega (arith, in-order D 0 l o i j e (omega (arith, x .part .within)), leaf-low))
               (le-or-lt j i)
 
-    pub copied-all : s .hi ≤ i → (P : ℕ → Bool) → Copies D l base from w P → Fed D P write from (from + w) out₀ r₀ out r
+    pub copied-all : s .hi ≤ i → (P : ℕ → Bool) → Copies D l base from w P → Fed D P from (from + w) out₀ r₀ out r
     copied-all g P h =
-        fed-then D P write (k .fed P h)
-        (fed-white D P write (k .p) (from + w) out r (k .top) root (gap P h (from + w) (omega arith) (λ j a b. absurd (omega arith))) (k .ready))
+        fed-then D P (k .fed P h)
+        (fed-white D P (k .p) (from + w) out r (k .top) root (gap P h (from + w) (omega arith) (λ j a b. absurd (omega arith))) (k .ready))
 
 -- ---- a slot of one colour
 

@@ -1,5 +1,5 @@
--- `moves::move_whole` meets its contract: acceptance, a pass that only counts, and one that writes. Assumes nothing.
-use mathlib.Core.Path.{_≡_, refl, sym, ap, subst}
+-- `moves::move_whole` meets its contract: acceptance, a pass on the empty part that counts, and one on all of the buffer that writes. Assumes nothing.
+use mathlib.Core.Path.{_≡_, refl, ap, subst}
 use mathlib.Core.Logic.{inl, inr, _↔_}
 use mathlib.Core.List.{List}
 use mathlib.Core.Bool.{true}
@@ -50,9 +50,9 @@ module _ (e : tie.Else1) where
       rw is (shifted-exactly (a .depth) (a .dx) (a .dy) (a .dz) _ _ _ (parts (e .before)) (a .list .now) (b .pre .1) accepted v h)
 
   -- past the test, the room decides
-  next : (t : Answer × List ℕ) → Told (b .args .depth) (FromBlack (b .args .depth) (b .args .dx) (b .args .dy) (b .args .dz) (b .args .list .now)) (b .args .out .now) t
+  next : {t : Answer × List ℕ} → Told (b .args .depth) (FromBlack (b .args .depth) (b .args .dx) (b .args .dy) (b .args .dz) (b .args .list .now)) (b .args .out .now) t
       → ShiftOf (b .args .depth) (b .args .list .now) (b .args .dx) (b .args .dy) (b .args .dz) (b .args .out .now) t
-  next t told =
+  next told =
       let a = b .args in
       inr ((λ r (i, F, _). accepted-stays (a .depth) (a .dx) (a .dy) (a .dz) (a .list .now) accepted i (F .within) (F .leaves)), told)
 
@@ -68,28 +68,18 @@ returns c =
 
 returns-2 : tie.Need-returns-2
 returns-2 c =
-    let q = c .before .before .before .before in
-    let p = q .before .before in
-    let e = p .before in
-    let a = b e .args in
-    let w = q .shift-list in
-    next e (c .refusal2 .result, w .last .1 .1 .1 .0)
-    (subst (λ (r : Answer). Told (a .depth) (FromBlack (a .depth) (a .dx) (a .dy) (a .dz) (a .list .now)) (a .out .now) (r, w .last .1 .1 .1 .0)) (sym (c .refusal2 .ensures))
-    (crowded (a .depth) (shifted (a .depth) (a .list .now) (p .backwards .result)) _ (voxels e (p .backwards .result) (p .backwards .ensures)) (a .out .now) (w .last .1 .1 .1 .0) (w .result) (w .ensures) (c .before .if2 .taken)))
+    let counted = c .before .before .before .before in
+    let shift = counted .before .before in
+    let e = shift .before in
+    next e (crowded _ _ _ (voxels e (shift .backwards .result) (shift .backwards .ensures)) (counted .shift-list .ensures) (c .refusal2 .ensures) (c .before .if2 .taken))
 
 returns-3 : tie.Need-returns-3
 returns-3 c =
-    let f = c .before .before .before .before .before in
-    let q = f .before .before .before in
-    let p = q .before .before in
-    let e = p .before in
-    let a = b e .args in
-    let w = q .shift-list in
-    let w₂ = c .before .before .before .shift-list2 in
-    next e (c .success .result, w₂ .last .1 .1 .1 .0)
-    (subst (λ (r : Answer). Told (a .depth) (FromBlack (a .depth) (a .dx) (a .dy) (a .dz) (a .list .now)) (a .out .now) (r, w₂ .last .1 .1 .1 .0)) (sym (c .success .ensures))
-    (written (a .depth) (shifted (a .depth) (a .list .now) (p .backwards .result)) _ (voxels e (p .backwards .result) (p .backwards .ensures)) (a .out .now) (w .last .1 .1 .1 .0) (w .result) (w .ensures)
-    (w₂ .last .1 .1 .1 .0) (w₂ .result) (f .if2 .left) (w₂ .ensures)))
+    let room = c .before .before .before .before .before in
+    let counted = room .before .before .before in
+    let shift = counted .before .before in
+    let e = shift .before in
+    next e (written _ _ _ (voxels e (shift .backwards .result) (shift .backwards .ensures)) (counted .shift-list .ensures) (c .success .ensures) (room .if2 .left) (c .before .before .before .shift-list2 .ensures))
 
 pub move-whole-spec : {M : Type 1} → statement M
 move-whole-spec =
@@ -102,6 +92,8 @@ move-whole-spec =
     (λ c κs. search needs)
     returns
     (λ c κs. search needs)
+    (λ c. search needs)
+    (λ c. search needs)
     (λ c κs. search needs)
     (λ c κs. search needs)
     (λ c. search needs)

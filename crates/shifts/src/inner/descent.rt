@@ -47,10 +47,9 @@ pub fn copy_leaves(
     from: u32,
     r: Runs,
     out: &mut [u32],
-    write: bool,
 ) -> Runs
     requires { ⌜ (depth ≤ deepest) × Ordered depth 0 (now l) × Inside depth (now l) base w s × (from + w ≤ 8 ^ depth) × Ready depth r from ⌝ }
-    ensures { λ t. ⌜ ((P : ℕ → Bool) → Copies depth (now (l .entry)) base from w P → Fed depth P write from (from + w) (now (out .entry)) r (now (out .exit)) t) ⌝ }
+    ensures { λ t. ⌜ ((P : ℕ → Bool) → Copies depth (now (l .entry)) base from w P → Fed depth P from (from + w) (now (out .entry)) r (now (out .exit)) t) ⌝ }
 {
     let hi = s.hi;
     let mut t = r;
@@ -59,7 +58,7 @@ pub fn copy_leaves(
         let at = i as usize;
         let c = l[at];
         let v = from + (first(depth, c) - base);
-        t = push(depth, t, true, v, v + width(depth, c), out, write);
+        t = push(depth, t, true, v, v + width(depth, c), out);
         i += 1;
     }
     t
@@ -74,20 +73,19 @@ pub fn copy_slot(
     from: u32,
     r: Runs,
     out: &mut [u32],
-    write: bool,
 ) -> Runs
     requires { ⌜ (depth ≤ deepest) × (k ≤ depth) × Ordered depth 0 (now l) × ((b : ℕ) × Of depth (now l) k b s) × (from + 8 ^ k ≤ 8 ^ depth) × Ready depth r from ⌝ }
-    ensures { λ t. ⌜ ((P : ℕ → Bool) (b : ℕ) → Of depth (now (l .entry)) k b s → Copies depth (now (l .entry)) (b * 8 ^ k) from (8 ^ k) P → Fed depth P write from (from + 8 ^ k) (now (out .entry)) r (now (out .exit)) t) ⌝ }
+    ensures { λ t. ⌜ ((P : ℕ → Bool) (b : ℕ) → Of depth (now (l .entry)) k b s → Copies depth (now (l .entry)) (b * 8 ^ k) from (8 ^ k) P → Fed depth P from (from + 8 ^ k) (now (out .entry)) r (now (out .exit)) t) ⌝ }
 {
     let w = pow8(k);
     let t = tint_slot(depth, l, w, s);
     match t {
-        Tint::White => push(depth, r, false, from, from + w, out, write),
-        Tint::Black => push(depth, r, true, from, from + w, out, write),
+        Tint::White => push(depth, r, false, from, from + w, out),
+        Tint::Black => push(depth, r, true, from, from + w, out),
         Tint::Mixed => {
             let at = s.lo as usize;
             let c = l[at];
-            copy_leaves(depth, l, first(depth, c) / w * w, w, s, from, r, out, write)
+            copy_leaves(depth, l, first(depth, c) / w * w, w, s, from, r, out)
         }
     }
 }
@@ -103,25 +101,24 @@ pub fn shift_cell(
     t: [Slot; 8],
     r: Runs,
     out: &mut [u32],
-    write: bool,
 ) -> Runs
     requires { ⌜ (depth ≤ deepest) × (k ≤ depth) × (from + 8 ^ k ≤ 8 ^ depth) × Ordered depth 0 (now l) × Needs w (now f) × Target depth (now l) w k from t × Ready depth r from ⌝ }
-    ensures { λ s. ⌜ Fed depth (shifted depth (now (l .entry)) w) write from (from + 8 ^ k) (now (out .entry)) r (now (out .exit)) s ⌝ }
+    ensures { λ s. ⌜ Fed depth (shifted depth (now (l .entry)) w) from (from + 8 ^ k) (now (out .entry)) r (now (out .exit)) s ⌝ }
 {
     let at = k as usize;
     let n = f[at];
     if n == 0 {
         let s = t[0];
-        return copy_slot(depth, l, k, s, from, r, out, write);
+        return copy_slot(depth, l, k, s, from, r, out);
     }
     let span = pow8(k);
     let tint = colour(depth, l, span, n, t);
     match tint {
-        Tint::White => push(depth, r, false, from, from + span, out, write),
-        Tint::Black => push(depth, r, true, from, from + span, out, write),
+        Tint::White => push(depth, r, false, from, from + span, out),
+        Tint::Black => push(depth, r, true, from, from + span, out),
         Tint::Mixed => {
             let p = split(depth, l, k - 1, n, t);
-            shift_children(depth, l, w, f, k - 1, from, p, r, out, write)
+            shift_children(depth, l, w, f, k - 1, from, p, r, out)
         }
     }
 }
@@ -137,10 +134,9 @@ pub fn shift_children(
     p: [[Slot; 8]; 8],
     r: Runs,
     out: &mut [u32],
-    write: bool,
 ) -> Runs
     requires { ⌜ (depth ≤ deepest) × (k < depth) × (from + 8 ^ suc k ≤ 8 ^ depth) × Ordered depth 0 (now l) × Needs w (now f) × Parents depth (now l) w k from p × Ready depth r from ⌝ }
-    ensures { λ s. ⌜ Fed depth (shifted depth (now (l .entry)) w) write from (from + 8 ^ suc k) (now (out .entry)) r (now (out .exit)) s ⌝ }
+    ensures { λ s. ⌜ Fed depth (shifted depth (now (l .entry)) w) from (from + 8 ^ suc k) (now (out .entry)) r (now (out .exit)) s ⌝ }
 {
     let span = pow8(k);
     let h = (w >> (3 * k)) % 8;
@@ -148,17 +144,17 @@ pub fn shift_children(
     let mut v = from;
     let mut m: u32 = 0;
     while m < 8 {
-        s = shift_cell(depth, l, w, f, k, v, pick(p, h, m), s, out, write);
+        s = shift_cell(depth, l, w, f, k, v, pick(p, h, m), s, out);
         v += span;
         m += 1;
     }
     s
 }
 
-// The good list of the shifted voxels: its length, and, with `write`, its codes as far as there is room.
-pub fn shift_list(depth: u32, l: &[u32], w: u32, out: &mut [u32], write: bool) -> usize
+// The good list of the shifted voxels: its length, and its codes in `out`, as far as there is room.
+pub fn shift_list(depth: u32, l: &[u32], w: u32, out: &mut [u32]) -> usize
     requires { ⌜ (depth ≤ deepest) × Ordered depth 0 (now l) ⌝ }
-    ensures { λ n. ⌜ Result depth (shifted depth (now (l .entry)) w) write (now (out .entry)) (now (out .exit)) n ⌝ }
+    ensures { λ n. ⌜ Result depth (shifted depth (now (l .entry)) w) (now (out .entry)) (now (out .exit)) n ⌝ }
 {
     let r = Runs {
         from: 0,
@@ -170,6 +166,6 @@ pub fn shift_list(depth: u32, l: &[u32], w: u32, out: &mut [u32], write: bool) -
         lo: 0,
         hi: l.len() as u32,
     };
-    let s = shift_cell(depth, l, w, &f, depth, 0, [all; 8], r, out, write);
-    finish(depth, s, out, write)
+    let s = shift_cell(depth, l, w, &f, depth, 0, [all; 8], r, out);
+    finish(depth, s, out)
 }

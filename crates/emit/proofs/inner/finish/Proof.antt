@@ -11,9 +11,9 @@ returns c = λ P o e.
     let s = c .before .before .before .before .before .before in
     let a = s .args in
     let f = c .before .before .flush in
-    let x : Fed (a .depth) P (a .write) (8 ^ a .depth) (8 ^ a .depth) (a .out .now) (a .r) (f .last .1 .1 .1 .0) (fresh (8 ^ a .depth) (f .result)) =
+    let x : Fed (a .depth) P (8 ^ a .depth) (8 ^ a .depth) (a .out .now) (a .r) (f .last .1 .1 .1 .0) (fresh (8 ^ a .depth) (f .result)) =
     rw (c .before .before .before .before .pow8 .ensures) at (f .ensures P) in
-    emit-done (a .depth) P (a .write) o (f .last .1 .1 .1 .0) (f .result) (x .emits o e)
+    emit-done (a .depth) P o (f .last .1 .1 .1 .0) (f .result) (x .emits o e)
 
 pub finish-spec : {M : Type 1} → statement M
 finish-spec = tie.close (tie.spec (λ c κs. search needs) (λ c κs. search needs) (λ c. search needs) returns)

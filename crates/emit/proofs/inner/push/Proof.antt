@@ -14,7 +14,7 @@ returns : tie.Need-returns
 returns c = λ P colour.
     let s = c .before .before in
     let a = s .args in
-    fed-white (a .depth) P (a .write) (a .from) (a .to) (a .out .now) (a .r) (omega (arith, s .pre .2)) (s .pre .3)
+    fed-white (a .depth) P (a .from) (a .to) (a .out .now) (a .r) (omega (arith, s .pre .2)) (s .pre .3)
     (λ v x y. colour v x y ∙ not-true (a .black) (c .if1 .taken))
     (s .pre .1)
 
@@ -26,9 +26,9 @@ returns-2 c = λ P colour.
     record {
       ready = record { run = omega (arith, h .run, h .past, s .pre .2); past = omega arith; few = h .few; root = s .pre .3 };
       emits = λ o e.
-          emit-black (a .depth) P (a .write) o (a .out .now) (a .from) (a .to) (a .r .from) (a .r .at)
+          emit-black (a .depth) P o (a .out .now) (a .from) (a .to) (a .r .from) (a .r .at)
           (λ v x y. colour v x y ∙ not-false (a .black) (c .before .before .if1 .left))
-          (subst (λ (x : ℕ). Emitted (a .depth) P (a .write) o (a .out .now) (a .from) (record { from = a .r .from; to = x; at = a .r .at })) (c .if2 .taken) e);
+          (subst (λ (x : ℕ). Emitted (a .depth) P o (a .out .now) (a .from) (record { from = a .r .from; to = x; at = a .r .at })) (c .if2 .taken) e);
     }
 
 flush-requires : tie.Need-flush-requires
@@ -45,7 +45,7 @@ returns-3 c = λ P colour.
     record {
       ready = record { run = omega (arith, s .pre .2); past = omega arith; few = omega (arith, x .ready .few); root = s .pre .3 };
       emits = λ o e.
-          emit-black (a .depth) P (a .write) o (f .last .1 .1 .1 .0) (a .from) (a .to) (a .from) (f .result)
+          emit-black (a .depth) P o (f .last .1 .1 .1 .0) (a .from) (a .to) (a .from) (f .result)
           (λ v x y. colour v x y ∙ not-false (a .black) (c .before .before .before .before .before .before .if1 .left))
           (x .emits o e);
     }

@@ -6,4 +6,4 @@ use Rattle.emit.proofs.inner.put.Statement.{statement}
 use Rattle.emit.proofs.inner.put.Tie as tie
 
 pub put-spec : {M : Type 1} → statement M
-put-spec = tie.close (tie.spec (λ c. search needs) (λ c. search needs) (λ c. search needs) (λ c. rw (c .before .if1 .taken)) (λ c. rw (c .before .if1 .taken) (sym (set-out _ _ _ (c .if2 .left)))) (λ c. search needs))
+put-spec = tie.close (tie.spec (λ c. search needs) (λ c. search needs) (λ c. search needs) (λ c. search needs) (λ c. sym (set-out _ _ _ (c .if1 .left))))

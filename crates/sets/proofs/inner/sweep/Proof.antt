@@ -5,8 +5,8 @@ use mathlib.Core.Bool.{Bool}
 use Prim.Native.Nat.{ℕ, _-_, _^_, _<_}
 use native.Mathlib.Omega.{arith}
 use lib.ListN.{length}
+use lib.Seq.{length-sets}
 use Rattle.emit.specs.Inner.{fresh, Emitted, Result}
-use Rattle.emit.proofs.Puts.{puts-length}
 use Rattle.emit.proofs.Runs.{fed-none, fed-then, fed-all}
 use Rattle.sets.specs.Inner.{both}
 use Rattle.sets.proofs.Cursors.{behind-none}
@@ -15,10 +15,10 @@ use Rattle.sets.proofs.inner.sweep.Statement.{statement}
 use Rattle.sets.proofs.inner.sweep.Tie as tie
 
 abbrev Inv-loop : tie.InvT-loop
-Inv-loop op depth a b out₀ write full r₀ x₀ y₀ v₀ out r x y v = Swept op depth a b write out₀ out r x y v
+Inv-loop op depth a b out₀ full r₀ x₀ y₀ v₀ out r x y v = Swept op depth a b out₀ out r x y v
 
 abbrev μ-loop : tie.MeasureT-loop
-μ-loop op depth a b out₀ write full r₀ x₀ y₀ v₀ out r x y v = full - v
+μ-loop op depth a b out₀ full r₀ x₀ y₀ v₀ out r x y v = full - v
 
 load-requires : tie.Need-load-requires Inv-loop μ-loop
 load-requires c κs =
@@ -36,9 +36,9 @@ loop-holds c =
     let a = s .args in
     let x = c .before .before .load in
     let y = c .before .load2 in
-    jump (a .op) (a .depth) (a .a .now) (a .b .now) (a .write) (a .out .now) (a .out .now) (fresh 0 0) (x .result) (y .result) 0 (c .least .result) (omega (arith, c .least .ensures))
+    jump (a .op) (a .depth) (a .a .now) (a .b .now) (a .out .now) (a .out .now) (fresh 0 0) (x .result) (y .result) 0 (c .least .result) (omega (arith, c .least .ensures))
     (record {
-      fed = fed-none (a .depth) (both (a .op) (a .depth) (a .a .now) (a .b .now)) (a .write) 0 (a .out .now) (fresh 0 0) (record { run = omega arith; past = omega arith; few = omega arith; root = omega arith });
+      fed = fed-none (a .depth) (both (a .op) (a .depth) (a .a .now) (a .b .now)) 0 (a .out .now) (fresh 0 0) (record { run = omega arith; past = omega arith; few = omega arith; root = omega arith });
       left = x .ensures 0 (behind-none (a .depth) (a .a .now) (s .pre .1));
       right = y .ensures 0 (behind-none (a .depth) (a .b .now) (s .pre .2));
     })
@@ -94,10 +94,10 @@ loop-again c =
     let q = c .before .before .before .before .before .before .push in
     let e = c .before .before .before .before .before .before .before .before .takes .ensures in
     let P = both (a .op) (a .depth) (a .a .now) (a .b .now) in
-    jump (a .op) (a .depth) (a .a .now) (a .b .now) (a .write) (a .out .now) (q .last .1 .1 .1 .1 .1 .0) (q .result) (c .before .before .before .pass .result) (c .before .before .pass2 .result) (u .least2 .result) (c .greatest .result)
+    jump (a .op) (a .depth) (a .a .now) (a .b .now) (a .out .now) (q .last .1 .1 .1 .1 .1 .0) (q .result) (c .before .before .before .pass .result) (c .before .before .pass2 .result) (u .least2 .result) (c .greatest .result)
     (omega (arith, c .greatest .ensures, c .before .least3 .ensures))
     (record {
-      fed = fed-then (a .depth) P (a .write) (t .inv .fed) (q .ensures P (λ w m n. turn u .same w m n ∙ sym e));
+      fed = fed-then (a .depth) P (t .inv .fed) (q .ensures P (λ w m n. turn u .same w m n ∙ sym e));
       left = c .before .before .before .pass .ensures;
       right = c .before .before .pass2 .ensures;
     })
@@ -110,12 +110,12 @@ module _ (c : tie.After-loop Inv-loop μ-loop) where
   abbrev set : ℕ → Bool
   set = both (start .args .op) (start .args .depth) (start .args .a .now) (start .args .b .now)
 
-  done : Emitted (start .args .depth) set (start .args .write) (start .args .out .now) (c .before .loop .out) (8 ^ start .args .depth) (c .before .loop .r)
+  done : Emitted (start .args .depth) set (start .args .out .now) (c .before .loop .out) (8 ^ start .args .depth) (c .before .loop .r)
   done =
       let t = c .before .loop in
       let a = start .args in
       let e : t .v ≡ 8 ^ a .depth = omega (arith, t .inv .fed .ready .root, c .loop-test .left, c .before .before .before .before .before .pow8 .ensures) in
-      fed-all (a .depth) set (a .write) (a .out .now) (t .out) (t .r) (rw e at (t .inv .fed))
+      fed-all (a .depth) set (a .out .now) (t .out) (t .r) (rw e at (t .inv .fed))
 
 finish-requires : tie.Need-finish-requires Inv-loop μ-loop
 finish-requires c κs =
@@ -125,7 +125,7 @@ finish-requires c κs =
     (s .pre .0, rw e at (t .inv .fed .ready))
 
 -- what finish gives
-result : (c : tie.After-slice-known3 Inv-loop μ-loop) → Result (start (c .before .before .before .before) .args .depth) (set (c .before .before .before .before)) (start (c .before .before .before .before) .args .write) (start (c .before .before .before .before) .args .out .now) (c .before .before .finish .last .1 .1 .0) (c .before .before .finish .result)
+result : (c : tie.After-slice-known3 Inv-loop μ-loop) → Result (start (c .before .before .before .before) .args .depth) (set (c .before .before .before .before)) (start (c .before .before .before .before) .args .out .now) (c .before .before .finish .last .1 .1 .0) (c .before .before .finish .result)
 result c =
     let u = c .before .before .before .before in
     c .before .before .finish .ensures (set u) (start u .args .out .now) (done u)
@@ -134,7 +134,7 @@ same-length : tie.Need-same-length Inv-loop μ-loop
 same-length c =
     let a = start (c .before .before .before .before) .args in
     let r = result c in
-    ap length (r .written) ∙ puts-length (a .write) (a .out .now) 0 (r .cells)
+    ap length (r .written) ∙ length-sets (a .out .now) 0 (r .cells)
 
 pub sweep-spec : {M : Type 1} → statement M
 sweep-spec =

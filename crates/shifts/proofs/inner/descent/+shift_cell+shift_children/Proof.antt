@@ -101,9 +101,9 @@ module _ (t : ℕ) where
     axes-lt = omega (arith, axes, need-lt (s .args .k) (s .args .w))
 
     -- what was fed, by the span's other name
-    fed : (out : List ℕ) (r : Runs) (u v : ℕ) → u ≡ v → Fed (s .args .depth) (shifted (s .args .depth) (s .args .l .now) (s .args .w)) (s .args .write) (s .args .from) (s .args .from + u) (s .args .out .now) (s .args .r) out r
-        → Fed (s .args .depth) (shifted (s .args .depth) (s .args .l .now) (s .args .w)) (s .args .write) (s .args .from) (s .args .from + v) (s .args .out .now) (s .args .r) out r
-    fed out r u v e x = let a = s .args in subst (λ (y : ℕ). Fed (a .depth) (shifted (a .depth) (a .l .now) (a .w)) (a .write) (a .from) (a .from + y) (a .out .now) (a .r) out r) e x
+    fed : (out : List ℕ) (r : Runs) (u v : ℕ) → u ≡ v → Fed (s .args .depth) (shifted (s .args .depth) (s .args .l .now) (s .args .w)) (s .args .from) (s .args .from + u) (s .args .out .now) (s .args .r) out r
+        → Fed (s .args .depth) (shifted (s .args .depth) (s .args .l .now) (s .args .w)) (s .args .from) (s .args .from + v) (s .args .out .now) (s .args .r) out r
+    fed out r u v e x = let a = s .args in subst (λ (y : ℕ). Fed (a .depth) (shifted (a .depth) (a .l .now) (a .w)) (a .from) (a .from + y) (a .out .now) (a .r) out r) e x
 
   module _ (p : shift-cell-lts.After-pow8 (cell-calls t) (shift-cell-at t) shift-cell.Post) where
     abbrev begin : shift-cell-lts.Start (cell-calls t) (shift-cell-at t) shift-cell.Post
@@ -254,10 +254,10 @@ module _ (t : ℕ) where
 -- ---- the children
 
 abbrev shift-children-Inv-loop : shift-children-lts.InvT-loop
-shift-children-Inv-loop depth l w f k from p out₀ write span h s₀ v₀ m₀ out s v m = Children depth (shifted depth l w) write from out₀ s₀ span out s v m
+shift-children-Inv-loop depth l w f k from p out₀ span h s₀ v₀ m₀ out s v m = Children depth (shifted depth l w) from out₀ s₀ span out s v m
 
 abbrev shift-children-μ-loop : shift-children-lts.MeasureT-loop
-shift-children-μ-loop depth l w f k from p out₀ write span h s₀ v₀ m₀ out s v m = 8 - m
+shift-children-μ-loop depth l w f k from p out₀ span h s₀ v₀ m₀ out s v m = 8 - m
 
 module _ (t : ℕ) where
   -- child m ends within the root

@@ -9,10 +9,10 @@ use Rattle.shifts.proofs.inner.descent.copy_leaves.Statement.{statement
 use Rattle.shifts.proofs.inner.descent.copy_leaves.Tie as tie
 
 abbrev Inv-loop : tie.InvT-loop
-Inv-loop depth l base w from out₀ write hi t₀ i₀ out t i = Copied depth l base w from write out₀ t₀ i₀ hi out t i
+Inv-loop depth l base w from out₀ hi t₀ i₀ out t i = Copied depth l base w from out₀ t₀ i₀ hi out t i
 
 abbrev μ-loop : tie.MeasureT-loop
-μ-loop depth l base w from out₀ write hi t₀ i₀ out t i = hi - i
+μ-loop depth l base w from out₀ hi t₀ i₀ out t i = hi - i
 
 loop-holds : tie.Need-loop-holds Inv-loop μ-loop
 loop-holds c =

@@ -47,9 +47,9 @@ module _ (p : tie.After-pow8) where
   told q t e = let a = q .before .before .before .before .args in subst (SlotTint (a .depth) (a .l .now) (q .before .pow8 .result) (a .s)) e (q .tint-slot .ensures)
 
   -- what was fed, by the span's other name
-  fed : (P : ℕ → Bool) (out : List ℕ) (t : Runs) → Fed (s .args .depth) P (s .args .write) (s .args .from) (s .args .from + p .pow8 .result) (s .args .out .now) (s .args .r) out t
-      → Fed (s .args .depth) P (s .args .write) (s .args .from) (s .args .from + 8 ^ s .args .k) (s .args .out .now) (s .args .r) out t
-  fed P out t x = let a = s .args in subst (λ (y : ℕ). Fed (a .depth) P (a .write) (a .from) (a .from + y) (a .out .now) (a .r) out t) (p .pow8 .ensures) x
+  fed : (P : ℕ → Bool) (out : List ℕ) (t : Runs) → Fed (s .args .depth) P (s .args .from) (s .args .from + p .pow8 .result) (s .args .out .now) (s .args .r) out t
+      → Fed (s .args .depth) P (s .args .from) (s .args .from + 8 ^ s .args .k) (s .args .out .now) (s .args .r) out t
+  fed P out t x = let a = s .args in subst (λ (y : ℕ). Fed (a .depth) P (a .from) (a .from + y) (a .out .now) (a .r) out t) (p .pow8 .ensures) x
 
   -- a colour of the cell, by the span's other name
   whole : (P : ℕ → Bool) (b : Bool) → ((v : ℕ) → s .args .from ≤ v → v < s .args .from + 8 ^ s .args .k → P v ≡ b) → (v : ℕ) → s .args .from ≤ v → v < s .args .from + p .pow8 .result → P v ≡ b

@@ -14,8 +14,8 @@ use Rattle.shifts.proofs.Targets.{root-target}
 use Rattle.shifts.proofs.inner.descent.shift_list.Statement.{statement}
 use Rattle.shifts.proofs.inner.descent.shift_list.Tie as tie
 
-cast-t12 : tie.Need-cast-t12
-cast-t12 c =
+cast-t11 : tie.Need-cast-t11
+cast-t11 c =
     let s = c .before .before .before in
     record { fits = omega (arith, few-ordered (s .args .depth) 0 (s .args .l .now) (omega arith) (s .pre .1), pow8-small (s .args .depth) (s .pre .0)) }
 
@@ -39,10 +39,10 @@ returns c =
     let P = shifted (a .depth) (a .l .now) (a .w) in
     let o = a .out .now in
     let q = d .shift-cell in
-    let all = subst (λ (x : ℕ). Fed (a .depth) P (a .write) 0 x o (fresh 0 0) (q .last .1 .1 .1 .1 .1 .1 .1 .1 .0) (q .result)) (zero-add (8 ^ a .depth)) (q .ensures) in
-    c .before .before .finish .ensures P o (fed-all (a .depth) P (a .write) o _ (q .result) all)
+    let all = subst (λ (x : ℕ). Fed (a .depth) P 0 x o (fresh 0 0) (q .last .1 .1 .1 .1 .1 .1 .1 .1 .0) (q .result)) (zero-add (8 ^ a .depth)) (q .ensures) in
+    c .before .before .finish .ensures P o (fed-all (a .depth) P o _ (q .result) all)
 
 pub shift-list-spec : {M : Type 1} → statement M
 shift-list-spec =
     tie.close
-    (tie.spec (λ c κs. search needs) cast-t12 shift-cell-requires (λ c κs. search needs) (λ c. search needs) returns)
+    (tie.spec (λ c κs. search needs) cast-t11 shift-cell-requires (λ c κs. search needs) (λ c. search needs) returns)
