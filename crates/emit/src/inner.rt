@@ -61,14 +61,7 @@ fn flush(depth: u32, r: Runs, pos: u32, out: &mut [u32]) -> usize
 }
 
 // One more piece [from, to), black or white, where all voxels below `from` are known.
-pub fn push(
-    depth: u32,
-    r: Runs,
-    black: bool,
-    from: u32,
-    to: u32,
-    out: &mut [u32],
-) -> Runs
+pub fn push(depth: u32, r: Runs, black: bool, from: u32, to: u32, out: &mut [u32]) -> Runs
     requires { ⌜ (depth ≤ deepest) × Ready depth r from × (from < to) × (to ≤ 8 ^ depth) ⌝ }
     ensures { λ s. ⌜ ((P : ℕ → Bool) → ((v : ℕ) → from ≤ v → v < to → P v ≡ black) →
         Fed depth P from to (now (out .entry)) r (now (out .exit)) s) ⌝ }
