@@ -5,16 +5,14 @@ use blocks::inspect::stored_volume;
 use blocks::read::read;
 use blocks::write::write;
 ghost use mathlib.Core.Path.{_≡_};
-ghost use Rattle.cells.specs.declared.Answer.{Answer};
 ghost use Rattle.blocks.specs.Calls.{BlockCheckOf, StoredVolumeOf, ReadOf, WriteOf};
 ghost use Rattle.blocks.specs.declared.Reading.{Reading};
-ghost use Rattle.probe.specs.Probe.{told, Probed};
+ghost use Rattle.probe.specs.Probe.{told, Probed, Tells, Writes};
 
 #[no_mangle]
 pub extern "C" fn probe_write(depth: u32, list: &[u32], bytes: &mut [u8], answer: &mut [u64])
-    ensures { λ _. ⌜ Probed (now (answer .entry)) ((now (answer .exit) ≡ now (answer .entry)) × (now (bytes .exit) ≡ now (bytes .entry)))
-        ((r : Answer) × WriteOf depth (now (list .entry)) (now (bytes .entry)) r (now (bytes .exit))
-        × (now (answer .exit) ≡ told (now (answer .entry)) r 0 0 0 0)) ⌝ }
+    ensures { λ _. ⌜ Writes (now (answer .entry)) (now (answer .exit)) (now (bytes .entry)) (now (bytes .exit))
+        (WriteOf depth (now (list .entry)) (now (bytes .entry))) ⌝ }
 {
     if answer.len() < 8 {
         return;
@@ -40,8 +38,7 @@ pub extern "C" fn probe_read(bytes: &[u8], out: &mut [u32], answer: &mut [u64])
 
 #[no_mangle]
 pub extern "C" fn probe_block_check(bytes: &[u8], answer: &mut [u64])
-    ensures { λ _. ⌜ Probed (now (answer .entry)) (now (answer .exit) ≡ now (answer .entry))
-        ((a : Answer) × BlockCheckOf (now (bytes .entry)) a × (now (answer .exit) ≡ told (now (answer .entry)) a 0 0 0 0)) ⌝ }
+    ensures { λ _. ⌜ Tells (now (answer .entry)) (now (answer .exit)) (BlockCheckOf (now (bytes .entry))) ⌝ }
 {
     if answer.len() < 8 {
         return;
@@ -51,8 +48,7 @@ pub extern "C" fn probe_block_check(bytes: &[u8], answer: &mut [u64])
 
 #[no_mangle]
 pub extern "C" fn probe_stored_volume(bytes: &[u8], answer: &mut [u64])
-    ensures { λ _. ⌜ Probed (now (answer .entry)) (now (answer .exit) ≡ now (answer .entry))
-        ((a : Answer) × StoredVolumeOf (now (bytes .entry)) a × (now (answer .exit) ≡ told (now (answer .entry)) a 0 0 0 0)) ⌝ }
+    ensures { λ _. ⌜ Tells (now (answer .entry)) (now (answer .exit)) (StoredVolumeOf (now (bytes .entry))) ⌝ }
 {
     if answer.len() < 8 {
         return;

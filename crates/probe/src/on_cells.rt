@@ -4,11 +4,10 @@ use cells::corners::code;
 use cells::corners::place;
 use cells::neighbours::neighbour;
 ghost use mathlib.Core.Path.{_≡_};
-ghost use Rattle.cells.specs.declared.Answer.{Answer};
 ghost use Rattle.cells.specs.declared.corners.Corner.{Corner};
 ghost use Rattle.cells.specs.Corners.{PlaceOf, CodeOf};
 ghost use Rattle.cells.specs.Neighbour.{NeighbourOf};
-ghost use Rattle.probe.specs.Probe.{told, Probed};
+ghost use Rattle.probe.specs.Probe.{told, Probed, Tells};
 
 #[no_mangle]
 pub extern "C" fn probe_place(depth: u32, code: u32, answer: &mut [u64])
@@ -32,8 +31,7 @@ pub extern "C" fn probe_place(depth: u32, code: u32, answer: &mut [u64])
 
 #[no_mangle]
 pub extern "C" fn probe_code(depth: u32, x: u32, y: u32, z: u32, level: u32, answer: &mut [u64])
-    ensures { λ _. ⌜ Probed (now (answer .entry)) (now (answer .exit) ≡ now (answer .entry))
-        ((a : Answer) × CodeOf depth x y z level a × (now (answer .exit) ≡ told (now (answer .entry)) a 0 0 0 0)) ⌝ }
+    ensures { λ _. ⌜ Tells (now (answer .entry)) (now (answer .exit)) (CodeOf depth x y z level) ⌝ }
 {
     if answer.len() < 8 {
         return;
@@ -50,8 +48,7 @@ pub extern "C" fn probe_neighbour(
     dz: i32,
     answer: &mut [u64],
 )
-    ensures { λ _. ⌜ Probed (now (answer .entry)) (now (answer .exit) ≡ now (answer .entry))
-        ((a : Answer) × NeighbourOf depth code dx dy dz a × (now (answer .exit) ≡ told (now (answer .entry)) a 0 0 0 0)) ⌝ }
+    ensures { λ _. ⌜ Tells (now (answer .entry)) (now (answer .exit)) (NeighbourOf depth code dx dy dz) ⌝ }
 {
     if answer.len() < 8 {
         return;

@@ -3,11 +3,9 @@ use crate::inner::tell;
 use metres::Metres;
 use metres::Move;
 use moves::move_list;
-ghost use mathlib.Core.Path.{_≡_};
-ghost use Rattle.cells.specs.declared.Answer.{Answer};
 ghost use Rattle.metres.specs.declared.Move.the-variants as the-move;
 ghost use Rattle.moves.specs.Moves.{MoveOf};
-ghost use Rattle.probe.specs.Probe.{told, Probed, metresOf};
+ghost use Rattle.probe.specs.Probe.{Writes, metresOf};
 
 #[no_mangle]
 pub extern "C" fn probe_move(
@@ -19,9 +17,8 @@ pub extern "C" fn probe_move(
     out: &mut [u32],
     answer: &mut [u64],
 )
-    ensures { λ _. ⌜ Probed (now (answer .entry)) ((now (answer .exit) ≡ now (answer .entry)) × (now (out .exit) ≡ now (out .entry)))
-        ((r : Answer) × MoveOf depth (now (list .entry)) (the-move.Voxels dx dy dz) (now (out .entry)) r (now (out .exit))
-        × (now (answer .exit) ≡ told (now (answer .entry)) r 0 0 0 0)) ⌝ }
+    ensures { λ _. ⌜ Writes (now (answer .entry)) (now (answer .exit)) (now (out .entry)) (now (out .exit))
+        (MoveOf depth (now (list .entry)) (the-move.Voxels dx dy dz) (now (out .entry))) ⌝ }
 {
     if answer.len() < 8 {
         return;
@@ -41,9 +38,8 @@ pub extern "C" fn probe_move_metres(
     out: &mut [u32],
     answer: &mut [u64],
 )
-    ensures { λ _. ⌜ Probed (now (answer .entry)) ((now (answer .exit) ≡ now (answer .entry)) × (now (out .exit) ≡ now (out .entry)))
-        ((r : Answer) × MoveOf depth (now (list .entry)) (the-move.Metres (metresOf x y z s)) (now (out .entry)) r (now (out .exit))
-        × (now (answer .exit) ≡ told (now (answer .entry)) r 0 0 0 0)) ⌝ }
+    ensures { λ _. ⌜ Writes (now (answer .entry)) (now (answer .exit)) (now (out .entry)) (now (out .exit))
+        (MoveOf depth (now (list .entry)) (the-move.Metres (metresOf x y z s)) (now (out .entry))) ⌝ }
 {
     if answer.len() < 8 {
         return;

@@ -13,12 +13,11 @@ ghost use denote.Ref.{ptr};
 ghost use Rattle.cells.specs.declared.Answer.{Answer};
 ghost use Rattle.records.specs.Calls.{CheckOf, LookupOf, VolumeOf};
 ghost use Rattle.records.specs.Met.{MetOf, MetAtOf};
-ghost use Rattle.probe.specs.Probe.{told, Probed, copied};
+ghost use Rattle.probe.specs.Probe.{told, Probed, Tells, copied};
 
 #[no_mangle]
 pub extern "C" fn probe_check(depth: u32, list: &[u32], answer: &mut [u64])
-    ensures { λ _. ⌜ Probed (now (answer .entry)) (now (answer .exit) ≡ now (answer .entry))
-        ((a : Answer) × CheckOf depth (now (list .entry)) a × (now (answer .exit) ≡ told (now (answer .entry)) a 0 0 0 0)) ⌝ }
+    ensures { λ _. ⌜ Tells (now (answer .entry)) (now (answer .exit)) (CheckOf depth (now (list .entry))) ⌝ }
 {
     if answer.len() < 8 {
         return;
@@ -28,8 +27,7 @@ pub extern "C" fn probe_check(depth: u32, list: &[u32], answer: &mut [u64])
 
 #[no_mangle]
 pub extern "C" fn probe_volume(depth: u32, list: &[u32], answer: &mut [u64])
-    ensures { λ _. ⌜ Probed (now (answer .entry)) (now (answer .exit) ≡ now (answer .entry))
-        ((a : Answer) × VolumeOf depth (now (list .entry)) a × (now (answer .exit) ≡ told (now (answer .entry)) a 0 0 0 0)) ⌝ }
+    ensures { λ _. ⌜ Tells (now (answer .entry)) (now (answer .exit)) (VolumeOf depth (now (list .entry))) ⌝ }
 {
     if answer.len() < 8 {
         return;
@@ -39,8 +37,7 @@ pub extern "C" fn probe_volume(depth: u32, list: &[u32], answer: &mut [u64])
 
 #[no_mangle]
 pub extern "C" fn probe_lookup(depth: u32, list: &[u32], x: u32, y: u32, z: u32, answer: &mut [u64])
-    ensures { λ _. ⌜ Probed (now (answer .entry)) (now (answer .exit) ≡ now (answer .entry))
-        ((a : Answer) × LookupOf depth (now (list .entry)) x y z a × (now (answer .exit) ≡ told (now (answer .entry)) a 0 0 0 0)) ⌝ }
+    ensures { λ _. ⌜ Tells (now (answer .entry)) (now (answer .exit)) (LookupOf depth (now (list .entry)) x y z) ⌝ }
 {
     if answer.len() < 8 {
         return;

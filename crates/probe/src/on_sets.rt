@@ -3,17 +3,14 @@ use crate::inner::tell;
 use sets::join;
 use sets::less;
 use sets::meet;
-ghost use mathlib.Core.Path.{_≡_};
-ghost use Rattle.cells.specs.declared.Answer.{Answer};
 ghost use Rattle.sets.specs.Sets.{SetOf};
 ghost use Rattle.sets.specs.declared.Op.the-variants.{Join, Meet, Less};
-ghost use Rattle.probe.specs.Probe.{told, Probed};
+ghost use Rattle.probe.specs.Probe.{Writes};
 
 #[no_mangle]
 pub extern "C" fn probe_join(depth: u32, a: &[u32], b: &[u32], out: &mut [u32], answer: &mut [u64])
-    ensures { λ _. ⌜ Probed (now (answer .entry)) ((now (answer .exit) ≡ now (answer .entry)) × (now (out .exit) ≡ now (out .entry)))
-        ((r : Answer) × SetOf Join depth (now (a .entry)) (now (b .entry)) (now (out .entry)) r (now (out .exit))
-        × (now (answer .exit) ≡ told (now (answer .entry)) r 0 0 0 0)) ⌝ }
+    ensures { λ _. ⌜ Writes (now (answer .entry)) (now (answer .exit)) (now (out .entry)) (now (out .exit))
+        (SetOf Join depth (now (a .entry)) (now (b .entry)) (now (out .entry))) ⌝ }
 {
     if answer.len() < 8 {
         return;
@@ -24,9 +21,8 @@ pub extern "C" fn probe_join(depth: u32, a: &[u32], b: &[u32], out: &mut [u32], 
 
 #[no_mangle]
 pub extern "C" fn probe_meet(depth: u32, a: &[u32], b: &[u32], out: &mut [u32], answer: &mut [u64])
-    ensures { λ _. ⌜ Probed (now (answer .entry)) ((now (answer .exit) ≡ now (answer .entry)) × (now (out .exit) ≡ now (out .entry)))
-        ((r : Answer) × SetOf Meet depth (now (a .entry)) (now (b .entry)) (now (out .entry)) r (now (out .exit))
-        × (now (answer .exit) ≡ told (now (answer .entry)) r 0 0 0 0)) ⌝ }
+    ensures { λ _. ⌜ Writes (now (answer .entry)) (now (answer .exit)) (now (out .entry)) (now (out .exit))
+        (SetOf Meet depth (now (a .entry)) (now (b .entry)) (now (out .entry))) ⌝ }
 {
     if answer.len() < 8 {
         return;
@@ -37,9 +33,8 @@ pub extern "C" fn probe_meet(depth: u32, a: &[u32], b: &[u32], out: &mut [u32], 
 
 #[no_mangle]
 pub extern "C" fn probe_less(depth: u32, a: &[u32], b: &[u32], out: &mut [u32], answer: &mut [u64])
-    ensures { λ _. ⌜ Probed (now (answer .entry)) ((now (answer .exit) ≡ now (answer .entry)) × (now (out .exit) ≡ now (out .entry)))
-        ((r : Answer) × SetOf Less depth (now (a .entry)) (now (b .entry)) (now (out .entry)) r (now (out .exit))
-        × (now (answer .exit) ≡ told (now (answer .entry)) r 0 0 0 0)) ⌝ }
+    ensures { λ _. ⌜ Writes (now (answer .entry)) (now (answer .exit)) (now (out .entry)) (now (out .exit))
+        (SetOf Less depth (now (a .entry)) (now (b .entry)) (now (out .entry))) ⌝ }
 {
     if answer.len() < 8 {
         return;

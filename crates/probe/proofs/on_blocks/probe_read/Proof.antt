@@ -6,12 +6,6 @@ use borrow.Author.Needs.{needs}
 use Rattle.probe.proofs.on_blocks.probe_read.Statement.{statement}
 use Rattle.probe.proofs.on_blocks.probe_read.Tie as tie
 
-returns-2 : tie.Need-returns-2
-returns-2 c =
-    let t = c .before .before in
-    let s = t .before .before .before .before .before .before in
-    inr (omega arith, (s .read .result, s .read .ensures, t .tell .ensures))
-
 pub probe-read-spec : {M : Type 1} → statement M
 probe-read-spec =
     tie.close
@@ -22,4 +16,4 @@ probe-read-spec =
     (λ c κs. search needs)
     (λ c. search needs)
     (λ c. search needs)
-    returns-2)
+    (λ c. let t = c .before .before in let s = t .before .before .before .before .before .before in inr (omega arith, (s .read .result, s .read .ensures, t .tell .ensures))))

@@ -6,8 +6,5 @@ use borrow.Author.Needs.{needs}
 use Rattle.probe.proofs.on_blocks.probe_stored_volume.Statement.{statement}
 use Rattle.probe.proofs.on_blocks.probe_stored_volume.Tie as tie
 
-returns-2 : tie.Need-returns-2
-returns-2 c = let t = c .before .before in inr (omega arith, (t .before .stored-volume .result, t .before .stored-volume .ensures, t .tell .ensures))
-
 pub probe-stored-volume-spec : {M : Type 1} → statement M
-probe-stored-volume-spec = tie.close (tie.spec (λ c. inl (omega arith, refl)) (λ c κs. search needs) (λ c κs. search needs) (λ c. search needs) returns-2)
+probe-stored-volume-spec = tie.close (tie.spec (λ c. inl (omega arith, refl)) (λ c κs. search needs) (λ c κs. search needs) (λ c. search needs) (λ c. let t = c .before .before in inr (omega arith, (t .before .stored-volume .result, t .before .stored-volume .ensures, t .tell .ensures))))

@@ -14,9 +14,6 @@ Inv-loop from to₀ i₀ to i = (i ≤ length from) × (i ≤ length to₀) × (
 abbrev μ-loop : tie.MeasureT-loop
 μ-loop from to₀ i₀ to i = length from - i
 
-loop-holds : tie.Need-loop-holds Inv-loop μ-loop
-loop-holds c = (omega arith, omega arith, omega arith, copied-none (c .args .from .now) (c .args .to .now))
-
 returns : tie.Need-returns Inv-loop μ-loop
 returns c =
     let l = c .before .before in
@@ -44,7 +41,7 @@ copy-spec =
     (tie.spec
     Inv-loop
     μ-loop
-    loop-holds
+    (λ c. (omega arith, omega arith, omega arith, copied-none (c .args .from .now) (c .args .to .now)))
     (λ c. omega arith)
     returns
     (λ c. omega arith)

@@ -6,11 +6,5 @@ use borrow.Author.Needs.{needs}
 use Rattle.probe.proofs.on_sets.probe_meet.Statement.{statement}
 use Rattle.probe.proofs.on_sets.probe_meet.Tie as tie
 
-returns-2 : tie.Need-returns-2
-returns-2 c =
-    let t = c .before .before in
-    let s = t .before .before .before .before in
-    inr (omega arith, (s .meet .result, s .meet .ensures, t .tell .ensures))
-
 pub probe-meet-spec : {M : Type 1} → statement M
-probe-meet-spec = tie.close (tie.spec (λ c. inl (omega arith, (refl, refl))) (λ c κs. search needs) (λ c κs. search needs) (λ c. search needs) (λ c. search needs) returns-2)
+probe-meet-spec = tie.close (tie.spec (λ c. inl (omega arith, (refl, refl))) (λ c κs. search needs) (λ c κs. search needs) (λ c. search needs) (λ c. search needs) (λ c. let t = c .before .before in let s = t .before .before .before .before in inr (omega arith, (s .meet .result, s .meet .ensures, t .tell .ensures))))
