@@ -6,21 +6,19 @@ use moves::move_list;
 
 fn whole(depth: u32, list: &[u32], dx: i32, dy: i32, dz: i32, room: usize) {
     let mut space = [0u32; 64];
-    if room <= 64 {
-        let out = &mut space[..room];
-        let r = move_list(depth, list, Move::Voxels(dx, dy, dz), out);
-        print::text(b"move");
-        print::number(depth as u64);
-        print::codes(list);
-        print::signed(dx);
-        print::signed(dy);
-        print::signed(dz);
-        print::text(b" room");
-        print::number(out.len() as u64);
-        print::answer(r);
-        print::front(r, out);
-        print::end();
-    }
+    let out = print::places(&mut space, room);
+    let r = move_list(depth, list, Move::Voxels(dx, dy, dz), out);
+    print::text(b"move");
+    print::number(depth as u64);
+    print::codes(list);
+    print::signed(dx);
+    print::signed(dy);
+    print::signed(dz);
+    print::text(b" room");
+    print::number(out.len() as u64);
+    print::answer(r);
+    print::front(r, out);
+    print::end();
 }
 
 // In metres along x, under a name; a voxel of depth 10 in the middle of the root shows where it goes.

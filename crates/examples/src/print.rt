@@ -65,6 +65,14 @@ pub fn front(a: Answer, out: &[u32]) {
     }
 }
 
+// The first places of a buffer, `room` of them or all.
+pub fn places(space: &mut [u32], room: usize) -> &mut [u32] {
+    if space.len() < room {
+        return space;
+    }
+    &mut space[..room]
+}
+
 pub fn end() {
     text(b"\n");
 }
