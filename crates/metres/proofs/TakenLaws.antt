@@ -8,10 +8,13 @@ use mathlib.Core.Logic.{_⊎_, inl, inr}
 use mathlib.Core.List.{List, [], _∷_}
 use Prim.Native.Nat.{ℕ, _≤_, _<_}
 use native.Mathlib.Omega.{arith}
+use borrow.Author.Count.{below-none, below-more}
 use lib.IntN.{ℤ}
 use Rattle.cells.specs.Answer.{answer, Test, Decided}
 use Rattle.cells.specs.declared.Answer.{Answer}
-use Rattle.cells.proofs.Decisions.{One, one-decided, one-refuses, passes}
+use Rattle.cells.specs.Place.{axes, EachAxis}
+use Rattle.cells.proofs.Decisions.{One, one-decided, one-refuses, one-refuses-first, passes}
+use Rattle.cells.proofs.Places.{each-axis}
 use Rattle.metres.specs.declared.Metres.{Metres}
 use Rattle.metres.specs.declared.Move.{Move}
 use Rattle.metres.specs.declared.Move.the-variants as MoveV
@@ -19,42 +22,47 @@ use Rattle.metres.specs.declared.inner.Coordinate.{Coordinate}
 use Rattle.metres.specs.declared.inner.Coordinate.the-variants.{Voxels, Bad}
 use Rattle.metres.specs.declared.inner.Taken.{Taken}
 use Rattle.metres.specs.declared.inner.Taken.the-variants as TakenV
-use Rattle.metres.specs.Metres.{moveTests, Becomes}
+use Rattle.metres.specs.Metres.{Whole, NoWhole, finest, coordinates, moveTests, Becomes}
 use Rattle.metres.specs.Taken.{told, TakenOf}
 use Rattle.metres.specs.Inner.{Rounded, together}
 use Rattle.metres.proofs.Rounding.{one-whole}
 
 -- ---- the outcome of metres with an edge number in range
 
-module _ (d : Metres) (low : d .s ≤ 10) where
-  s-passes : 10 < d .s → ⊥
-  s-passes h = omega arith
+module _ (m : Metres) (low : m .s ≤ finest) where
+  -- the coordinate of axis a has an outcome that is a whole number
+  abbrev Good : ℕ → Type 0
+  Good a = (n : ℤ) × Whole (m .s) (coordinates m a) n
 
-  pub together-taken : (a b c : Coordinate) → Rounded (d .s) (d .x) a → Rounded (d .s) (d .y) b → Rounded (d .s) (d .z) c → TakenOf d (together a b c)
+  -- the first bad coordinate, where those before it are good
+  first-bad : (a : ℕ) → a < 3 → NoWhole (m .s) (coordinates m a) → ((b : ℕ) → b < a → Good b) → TakenOf m (TakenV.Bad a)
+  first-bad a h none good = inr (passes (λ h. omega arith), inl (_, (a, record { below = h; here = none; before = λ b l bad. bad (good b l .0) (good b l .1) }, refl), refl))
+
+  pub together-taken : (a b c : Coordinate) → Rounded (m .s) (m .x) a → Rounded (m .s) (m .y) b → Rounded (m .s) (m .z) c → TakenOf m (together a b c)
   unfolding Rounded
-  together-taken Bad b c x y z = inr (passes s-passes, inl (_, (x, refl), refl))
-  together-taken (Voxels i) Bad c x y z = inr (passes s-passes, inr (passes (λ h. h i x), inl (_, (y, refl), refl)))
-  together-taken (Voxels i) (Voxels j) Bad x y z = inr (passes s-passes, inr (passes (λ h. h i x), inr (passes (λ h. h j y), inl (_, (z, refl), refl))))
+  together-taken Bad b c x y z = first-bad 0 (omega arith) x (below-none Good)
+  together-taken (Voxels i) Bad c x y z = first-bad 1 (omega arith) y (below-more Good 0 (below-none Good) (i, x))
+  together-taken (Voxels i) (Voxels j) Bad x y z = first-bad 2 (omega arith) z (below-more Good 1 (below-more Good 0 (below-none Good) (i, x)) (j, y))
   together-taken (Voxels i) (Voxels j) (Voxels k) x y z =
-      inr (passes s-passes, inr (passes (λ h. h i x), inr (passes (λ h. h j y), inr (passes (λ h. h k z), (i, j, k, (x, y, z), refl)))))
+      let all : EachAxis (λ a. Whole (m .s) (coordinates m a) (axes i j k a)) = each-axis _ x y z in
+      inr (passes (λ h. omega arith), inr (λ a (b, f, e). f .here (axes i j k b) (all b (f .below)), (i, j, k, all, refl)))
 
 -- ---- no second outcome
 
-pub one-becomes : (m : Move) (i j k i' j' k' : ℤ) → Becomes m i j k → Becomes m i' j' k' → (i ≡ i') × (j ≡ j') × (k ≡ k')
-one-becomes (MoveV.Voxels x y z) i j k i' j' k' (a, b, c) (a', b', c') = (a ∙ sym a', b ∙ sym b', c ∙ sym c')
-one-becomes (MoveV.Metres d) i j k i' j' k' (a, b, c) (a', b', c') =
-    (one-whole (d .s) (d .x) i i' a a', one-whole (d .s) (d .y) j j' b b', one-whole (d .s) (d .z) k k' c c')
+pub one-becomes : (m : Move) (d e : ℕ → ℤ) → Becomes m d → Becomes m e → EachAxis (λ a. d a ≡ e a)
+one-becomes (MoveV.Voxels x y z) d e p q a h = p a h ∙ sym (q a h)
+one-becomes (MoveV.Metres m) d e p q a h = one-whole (m .s) (coordinates m a) (d a) (e a) (p a h) (q a h)
 
-abbrev Whole : Move → Answer ⊎ (ℤ × ℤ × ℤ) → Type 0
-Whole m r = (i : ℤ) × (j : ℤ) × (k : ℤ) × Becomes m i j k × (r ≡ inr (i, j, k))
+abbrev Voxelled : Move → Answer ⊎ (ℤ × ℤ × ℤ) → Type 0
+Voxelled m r = (i : ℤ) × (j : ℤ) × (k : ℤ) × Becomes m (axes i j k) × (r ≡ inr (i, j, k))
 
-one-row : (m : Move) → One (Whole m)
+one-row : (m : Move) → One (Voxelled m)
 one-row m r s (i, j, k, b, e) (i', j', k', b', e') =
-    let (x, y, z) = one-becomes m i j k i' j' k' b b' in
-    e ∙ rw (x, y, z) (sym e')
+    let same = one-becomes m (axes i j k) (axes i' j' k') b b' in
+    e ∙ rw (same 0 (omega arith), same 1 (omega arith), same 2 (omega arith)) (sym e')
 
-one-outcome : (d : Metres) → One (Decided inl (moveTests (MoveV.Metres d)) (Whole (MoveV.Metres d)))
-one-outcome d = one-decided inl (moveTests (MoveV.Metres d)) (Whole (MoveV.Metres d)) (one-refuses, (one-refuses, (one-refuses, (one-refuses, tt)))) (one-row (MoveV.Metres d))
+one-outcome : (d : Metres) → One (Decided inl (moveTests (MoveV.Metres d)) (Voxelled (MoveV.Metres d)))
+one-outcome d = one-decided inl (moveTests (MoveV.Metres d)) (Voxelled (MoveV.Metres d)) (one-refuses, (one-refuses-first, tt)) (one-row (MoveV.Metres d))
 
 same-three : (i j k i' j' k' : ℤ) → _≡_ {A = Answer ⊎ (ℤ × ℤ × ℤ)} (inr (i, j, k)) (inr (i', j', k')) → (i ≡ i') × (j ≡ j') × (k ≡ k')
 same-three i j k i' j' k' e =
@@ -86,12 +94,12 @@ module _ (W R : Type 0) (refuse : Answer → R) (Q : Answer ⊎ W → Type 0) (P
   passed-row (F ∷ Fs) v r f (inr (n, d)) = inr (n, passed-row Fs v r f d)
 
 pub bad-decides : {R : Type 0} (refuse : Answer → R) (P : R → Type 0) (d : Metres) (p : ℕ) → TakenOf d (TakenV.Bad p) → Decided refuse (moveTests (MoveV.Metres d)) P (refuse (answer 5 p 0))
-bad-decides {R} refuse P d p h = refused-row (ℤ × ℤ × ℤ) R refuse (Whole (MoveV.Metres d)) P (moveTests (MoveV.Metres d)) (answer 5 p 0) (λ q. let e = q .4 in let z : _≡_ {A = ℕ} 0 1 = cc in omega arith) h
+bad-decides {R} refuse P d p h = refused-row (ℤ × ℤ × ℤ) R refuse (Voxelled (MoveV.Metres d)) P (moveTests (MoveV.Metres d)) (answer 5 p 0) (λ q. let e = q .4 in let z : _≡_ {A = ℕ} 0 1 = cc in omega arith) h
 
-pub whole-decides : {R : Type 0} (refuse : Answer → R) (P : R → Type 0) (d : Metres) (i j k : ℤ) (r : R) → TakenOf d (TakenV.Voxels i j k) → (Becomes (MoveV.Metres d) i j k → P r) → Decided refuse (moveTests (MoveV.Metres d)) P r
-whole-decides {R} refuse P d i j k r h f = passed-row (ℤ × ℤ × ℤ) R refuse (Whole (MoveV.Metres d)) P (moveTests (MoveV.Metres d)) (i, j, k) r same h
+pub whole-decides : {R : Type 0} (refuse : Answer → R) (P : R → Type 0) (d : Metres) (i j k : ℤ) (r : R) → TakenOf d (TakenV.Voxels i j k) → (Becomes (MoveV.Metres d) (axes i j k) → P r) → Decided refuse (moveTests (MoveV.Metres d)) P r
+whole-decides {R} refuse P d i j k r h f = passed-row (ℤ × ℤ × ℤ) R refuse (Voxelled (MoveV.Metres d)) P (moveTests (MoveV.Metres d)) (i, j, k) r same h
   where
-    same : Whole (MoveV.Metres d) (inr (i, j, k)) → P r
+    same : Voxelled (MoveV.Metres d) (inr (i, j, k)) → P r
     same (i', j', k', b, e) =
         let (x, y, z) = same-three i j k i' j' k' e in
         f (rw (← x, ← y, ← z) at b)

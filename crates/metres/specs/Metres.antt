@@ -8,9 +8,12 @@ use mathlib.Core.List.{List, [], _∷_}
 use lib.IntN.{ℤ, pos, negℤ, _+ℤ_, _-ℤ_, _*ℤ_}
 use lib.Signed.{_≤ℤ_, _<ℤ_}
 use lib.Ieee.{Float, nan, inf, fin, up, down}
-use Rattle.cells.specs.Answer.{answer, Test, refuses}
+use Rattle.cells.specs.Answer.{answer, Test, refuses, refusesFirst}
+use Rattle.cells.specs.Place.{axes, EachAxis}
+use Rattle.metres.specs.declared.Metres.{Metres}
 use Rattle.metres.specs.declared.Move.{Move}
-use Rattle.metres.specs.declared.Move.the-variants.{Voxels, Metres}
+use Rattle.metres.specs.declared.Move.the-variants.{Voxels}
+use Rattle.metres.specs.declared.Move.the-variants as the-move
 
 -- a, or -a where t is true
 abbrev pub signed : Bool → ℕ → ℤ
@@ -41,17 +44,20 @@ Whole s d n = Nearest s d n × In32 n
 abbrev pub NoWhole : ℕ → Float → Type 0
 NoWhole s d = (n : ℤ) → Whole s d n → ⊥
 
--- number 5: metres with an edge number above 10, place 3; else the first bad coordinate x, y, z, places 0, 1, 2. Whole voxels are never bad.
+-- the greatest edge number
+abbrev pub finest : ℕ
+finest = 10
+
+-- the coordinates of metres, by axis
+abbrev pub coordinates : Metres → ℕ → Float
+coordinates m = axes (m .x) (m .y) (m .z)
+
+-- number 5: metres with an edge number above the greatest, place 3; else the first bad coordinate x, y, z, places 0, 1, 2. Whole voxels are never bad.
 abbrev pub moveTests : Move → List Test
 moveTests (Voxels i j k) = []
-moveTests (Metres d) =
-    refuses (answer 5 3 0) (10 < d .s)
-    ∷ refuses (answer 5 0 0) (NoWhole (d .s) (d .x))
-    ∷ refuses (answer 5 1 0) (NoWhole (d .s) (d .y))
-    ∷ refuses (answer 5 2 0) (NoWhole (d .s) (d .z))
-    ∷ []
+moveTests (the-move.Metres m) = refuses (answer 5 3 0) (finest < m .s) ∷ refusesFirst 3 (λ a. NoWhole (m .s) (coordinates m a)) (λ a. answer 5 a 0) ∷ []
 
--- the whole voxels that a move becomes
-abbrev pub Becomes : Move → ℤ → ℤ → ℤ → Type 0
-Becomes (Voxels i j k) dx dy dz = (dx ≡ i) × (dy ≡ j) × (dz ≡ k)
-Becomes (Metres d) dx dy dz = Whole (d .s) (d .x) dx × Whole (d .s) (d .y) dy × Whole (d .s) (d .z) dz
+-- d is the whole voxels that a move becomes, by axis
+abbrev pub Becomes : Move → (ℕ → ℤ) → Type 0
+Becomes (Voxels i j k) d = EachAxis (λ a. d a ≡ axes i j k a)
+Becomes (the-move.Metres m) d = EachAxis (λ a. Whole (m .s) (coordinates m a) (d a))

@@ -3,6 +3,7 @@ use mathlib.Core.Path.{_≡_}
 use mathlib.Core.Logic.{_⊎_, inl, inr}
 use lib.IntN.{ℤ}
 use Rattle.cells.specs.Answer.{answer, Decided}
+use Rattle.cells.specs.Place.{axes}
 use Rattle.cells.specs.declared.Answer.{Answer}
 use Rattle.metres.specs.Metres.{moveTests, Becomes}
 use Rattle.metres.specs.declared.Move.the-variants as the-move
@@ -17,4 +18,4 @@ told (Voxels i j k) = inr (i, j, k)
 
 -- what the metres d become, t: the first test that fails decides, else the whole voxels
 abbrev pub TakenOf : Metres → Taken → Type 0
-TakenOf d t = Decided inl (moveTests (the-move.Metres d)) (λ r. (i : ℤ) × (j : ℤ) × (k : ℤ) × Becomes (the-move.Metres d) i j k × (r ≡ inr (i, j, k))) (told t)
+TakenOf d t = Decided inl (moveTests (the-move.Metres d)) (λ r. (i : ℤ) × (j : ℤ) × (k : ℤ) × Becomes (the-move.Metres d) (axes i j k) × (r ≡ inr (i, j, k))) (told t)

@@ -3,6 +3,7 @@
 // A coordinate d in metres becomes the whole number nearest to d x 2^s, a half going up, over the exact value of d. The size of d, times 2^(s+1), is an
 // `f64` again and nothing is lost, since only the exponent changes (`halved`). Its whole part counts half voxels, and whether something is over tells a half
 // from more than a half. `size` is the tie rule, and the only place that knows it. `fit` is the range of 32 bits.
+use crate::FINEST;
 use crate::Metres;
 ghost use mathlib.Core.Path.{_≡_};
 ghost use mathlib.Core.Bool.{false};
@@ -12,6 +13,7 @@ ghost use lib.IntN.{pos};
 ghost use lib.Ieee as Ieee;
 ghost use lib.Ieee.{fin};
 ghost use lib.Ieee.Positive.{positive, num, den};
+ghost use Rattle.metres.specs.Metres.{finest};
 ghost use Rattle.metres.specs.Taken.{TakenOf};
 ghost use Rattle.metres.specs.Inner.{Rounded, Measured, sizeOf, fitted, withSign, together};
 
@@ -35,7 +37,7 @@ pub struct Halves {
 
 // The size a in half voxels.
 fn halved(a: f64, s: u32) -> Halves
-    requires { ⌜ s ≤ 10 ⌝ }
+    requires { ⌜ s ≤ finest ⌝ }
     requires { ⌜ T (positive a) ⌝ }
     requires { ⌜ num a < 2 ^ 32 * den a ⌝ }
     ensures { λ r. ⌜ Measured s a r ⌝ }
@@ -83,7 +85,7 @@ fn fit(negative: bool, k: u64) -> Coordinate
 
 // The coordinate a, or -a.
 fn of_size(negative: bool, a: f64, s: u32) -> Coordinate
-    requires { ⌜ s ≤ 10 ⌝ }
+    requires { ⌜ s ≤ finest ⌝ }
     requires { ⌜ T (Ieee.lt (fin false 0 (pos 0)) a) ⌝ }
     ensures { λ r. ⌜ Rounded s (withSign negative a) r ⌝ }
 {
@@ -97,7 +99,7 @@ fn of_size(negative: bool, a: f64, s: u32) -> Coordinate
 
 // The whole number nearest to d x 2^s.
 fn nearest(d: f64, s: u32) -> Coordinate
-    requires { ⌜ s ≤ 10 ⌝ }
+    requires { ⌜ s ≤ finest ⌝ }
     ensures { λ r. ⌜ Rounded s d r ⌝ }
 {
     // only a NaN differs from itself
@@ -135,7 +137,7 @@ pub fn in_voxels(d: Metres) -> Taken
     ensures { λ r. ⌜ TakenOf d r ⌝ }
 {
     let s = d.s;
-    if s > 10 {
+    if FINEST < s {
         return Taken::Bad(3);
     }
     let x = nearest(d.x, s);

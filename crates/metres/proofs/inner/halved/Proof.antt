@@ -11,17 +11,18 @@ use lib.Ieee.{Float, binary64, mul, ofInt, fits, inFloat}
 use lib.Ieee.Exact.{HasValue}
 use lib.Ieee.Positive.{num, den, den-pos}
 use borrow.Author.Needs.{needs}
+use Rattle.metres.specs.Metres.{finest}
 use Rattle.metres.proofs.Floats.{scaled, whole-value, above-minus-one, below-two-64, cut-is, over-is}
 use Rattle.metres.proofs.inner.halved.Statement.{statement}
 use Rattle.metres.proofs.inner.halved.Tie as tie
 
 -- ---- 2 << s
-pow-small : (s : ℕ) → s ≤ 10 → 2 * 2 ^ s ≤ 2 ^ 11
+pow-small : (s : ℕ) → s ≤ finest → 2 * 2 ^ s ≤ 2 ^ 11
 pow-small s h =
     let x : 2 ^ s ≤ 2 ^ 10 = pow-mono h in
     omega arith
 
-shifted : (s : ℕ) → s ≤ 10 → 2 * 2 ^ s % 2 ^ 64 ≡ 2 * 2 ^ s
+shifted : (s : ℕ) → s ≤ finest → 2 * 2 ^ s % 2 ^ 64 ≡ 2 * 2 ^ s
 shifted s h =
     let x = pow-small s h in
     mod-eq-of-lt (omega arith)
@@ -31,7 +32,7 @@ unfolding inFloat
 is-whole n h = le→leb n (2 ^ 53) h
 
 -- ---- how large a times 2^(s+1) is
-bounded : (n d s : ℕ) → n < 2 ^ 32 * d → s ≤ 10 → 2 * n * 2 ^ s < 2 ^ 43 * d
+bounded : (n d s : ℕ) → n < 2 ^ 32 * d → s ≤ finest → 2 * n * 2 ^ s < 2 ^ 43 * d
 bounded n d s h S =
     let x : n * (2 * 2 ^ s) ≤ n * 2 ^ 11 = mul-le-mul-left n (pow-small s S) in
     let y : 2 * n * 2 ^ s ≡ n * (2 * 2 ^ s) = ap (λ (z : ℕ). z * 2 ^ s) (mul-comm 2 n) ∙ mul-assoc n 2 (2 ^ s) in
