@@ -22,8 +22,8 @@ find_compilers() {
       dpkg --add-architecture amd64 &&
         install_packages rustc libstd-rust-dev:amd64 gcc-x86-64-linux-gnu libc6-dev-amd64-cross qemu-user || return 1
     fi
-    RUSTC="/usr/bin/rustc --target x86_64-unknown-linux-gnu -C linker=x86_64-linux-gnu-gcc -C target-feature=+crt-static"
-    CC="x86_64-linux-gnu-gcc -static"
+    RUSTC="/usr/bin/rustc --target x86_64-unknown-linux-gnu -C linker=x86_64-linux-gnu-gcc"
+    CC="x86_64-linux-gnu-gcc"
     RUN="qemu-x86_64"
     ;;
   *)

@@ -15,7 +15,7 @@ use Rattle.records.specs.Record.{ListOf}
 use Rattle.records.specs.Writing.{Crowded, Written}
 use Rattle.records.proofs.OneList.{one-list, list-same}
 use Rattle.emit.specs.Inner.{Result}
-use Rattle.emit.proofs.Stores.{sets-front, sets-empty}
+use Rattle.records.proofs.Writing.{sets-front, sets-empty}
 
 -- the last test of a call and its success, past all other tests
 abbrev pub Told : ℕ → (ℕ → Type 0) → List ℕ → Answer × List ℕ → Type 0

@@ -18,7 +18,7 @@ use Rattle.records.proofs.Leaves.{member, member-black}
 use Rattle.records.proofs.Fill.{black-append, in-child}
 use Rattle.emit.specs.declared.inner.Runs.{Runs}
 use Rattle.emit.specs.Inner.{Fit, White, Ready, fresh, Emitted, Fed, Result}
-use Rattle.emit.proofs.Stores.{sets-append}
+use Rattle.records.proofs.Writing.{sets-append}
 
 -- ---- cells
 

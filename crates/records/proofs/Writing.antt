@@ -18,13 +18,13 @@ pub sets-append : (o : List ℕ) (n : ℕ) (l m : List ℕ) → sets o n (l ++ m
 sets-append o n [] m = ap (λ (k : ℕ). sets o k m) (sym (add-zero n))
 sets-append o n (c ∷ l) m = sets-append (set o n c) (suc n) l m ∙ ap (λ (k : ℕ). sets (sets (set o n c) (suc n) l) k m) (suc-add n (length l) ∙ sym (add-suc n (length l)))
 
-sets-nothing : (n : ℕ) (l : List ℕ) → sets [] n l ≡ []
-sets-nothing n [] = refl
-sets-nothing n (c ∷ l) = sets-nothing (suc n) l
+pub sets-empty : (n : ℕ) (l : List ℕ) → sets [] n l ≡ []
+sets-empty n [] = refl
+sets-empty n (c ∷ l) = sets-empty (suc n) l
 
 -- over the empty part of a buffer, which leaves it as it was
 pub sets-counted : (o e t : List ℕ) → e ≡ sets (take 0 o) 0 t → e ++ drop 0 o ≡ o
-sets-counted o e t p = ap (λ (x : List ℕ). x ++ o) (p ∙ sets-nothing 0 t)
+sets-counted o e t p = ap (λ (x : List ℕ). x ++ o) (p ∙ sets-empty 0 t)
 
 -- where they fit, they stand at the front
 pub sets-front : (o t : List ℕ) → length t ≤ length o → sets o 0 t ≡ stands t o
