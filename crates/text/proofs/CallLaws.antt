@@ -1,20 +1,17 @@
 -- The laws of the calls that give a text: counted first and then written, and no second answer fits. Assumes nothing.
-use mathlib.Core.Path.{_≡_, refl, sym, ap, _∙_}
+use mathlib.Core.Path.{_≡_, refl, ap, _∙_}
 use mathlib.Core.List.{List, [], _∷_, _++_}
-use mathlib.Core.Logic.{inl, inr}
 use Prim.Native.Nat.{ℕ, _^_, _≤_, _<_}
 use native.Mathlib.Omega.{arith}
 use lib.ListN.{length, take, drop}
-use Rattle.cells.specs.Answer.{answer, given, Test, Decided, keeping, TooDeep, deepest}
+use Rattle.cells.specs.Answer.{answer, given, keeping, TooDeep, deepest}
 use Rattle.cells.specs.declared.Answer.{Answer}
-use Rattle.cells.proofs.Decisions.{One, one-equal, one-refuses, one-decided, Numbered, refuses-numbered, decided-first, decided-next}
+use Rattle.cells.proofs.Decisions.{One, one-equal, one-refuses, one-refuses-first, one-decided, Opening}
 use Rattle.records.specs.Record.{black, Good}
 use Rattle.records.specs.Count.{count}
 use Rattle.records.specs.Fault.{Faulty}
-use Rattle.records.specs.Calls.{VolumeOf}
-use Rattle.records.proofs.Most.{few-leaves}
 use Rattle.records.specs.Writing.{stands, TooShort}
-use Rattle.records.proofs.CallLaws.{not-faulty, faulty-numbered}
+use Rattle.records.proofs.CallLaws.{checks}
 use Rattle.records.proofs.Writing.{sets-counted, sets-stands, Standing, too-short, standing}
 use Rattle.text.specs.Text.{textOf, TextOf, refusedText, RefusedOf}
 use Rattle.text.specs.Inner.{Put}
@@ -46,34 +43,19 @@ pub record Measured (D : ℕ) (l : List ℕ) (v : ℕ) : Type 0 where
   pub few : length l ≤ 8 ^ D
   pub is-volume : v ≡ count (black D l) (8 ^ D)
 
-module _ (D : ℕ) (l : List ℕ) (r : Answer) (d : VolumeOf D l r) where
-  numbered : Numbered (TooDeep D ∷ Faulty D l 1 ∷ [])
-  numbered = (refuses-numbered (λ z. omega arith), (faulty-numbered D l 1, tt))
-
-  -- a refusal is passed on
-  pub volume-first : {S : Type 0} (refuse : Answer → S) (Gs : List Test) (Q : S → Type 0) → (r .number ≡ 0 → ⊥) → Decided refuse (TooDeep D ∷ Faulty D l 1 ∷ Gs) Q (refuse r)
-  volume-first refuse Gs Q some =
-      decided-first refuse (TooDeep D ∷ Faulty D l 1 ∷ []) Gs (λ (a : Answer). a ≡ given (count (black D l) (8 ^ D))) Q r (λ e. some (ap (λ (x : Answer). x .number) e)) d
-
-  -- else the other tests decide
-  pub volume-next : {S : Type 0} (refuse : Answer → S) (Gs : List Test) (Q : S → Type 0) (s : S) → r .number ≡ 0 → Decided refuse Gs Q s → Decided refuse (TooDeep D ∷ Faulty D l 1 ∷ Gs) Q s
-  volume-next refuse Gs Q s z q = decided-next refuse (TooDeep D ∷ Faulty D l 1 ∷ []) Gs (λ (a : Answer). a ≡ given (count (black D l) (8 ^ D))) Q r s numbered z (λ e. q) d
-
-  pub measured : r .number ≡ 0 → Measured D l (r .place)
-  measured z = go d
-    where
-      go : VolumeOf D l r → Measured D l (r .place)
-      go (inl (a, t, e)) = absurd (numbered .0 a t (ap (λ (x : Answer). x .number) (sym e) ∙ z))
-      go (inr (deep, inl (a, t, e))) = absurd (numbered .1 .0 a t (ap (λ (x : Answer). x .number) (sym e) ∙ z))
-      go (inr (deep, inr (clean, e))) =
-          let shallow : deepest < D → ⊥ = λ h. deep _ (h, refl) in
-          let g = not-faulty D l 1 clean in
-          record { shallow = omega arith; good = g; few = few-leaves D l g; is-volume = ap (λ (x : Answer). x .place) e }
+pub measures : (D : ℕ) (l : List ℕ) → Opening (TooDeep deepest D ∷ Faulty D l 1 ∷ []) (λ r. r ≡ given (count (black D l) (8 ^ D))) (λ r. Measured D l (r .place))
+measures D l = record {
+  numbered = checks D l .numbered;
+  succeeds = λ r e. ap (λ (a : Answer). a .number) e;
+  known = λ r passed e.
+      let k = checks D l .known (given (length l)) passed refl in
+      record { shallow = k .shallow; good = k .good; few = k .few; is-volume = ap (λ (a : Answer). a .place) e };
+}
 
 -- ---- no second answer: the answer, and the bytes afterwards
 
 pub one-text : (D : ℕ) (l o : List ℕ) → One (λ (t : Answer × List ℕ). TextOf D l o (t .0) (t .1))
-one-text D l o = one-decided (keeping o) (TooDeep D ∷ Faulty D l 1 ∷ TooShort (length (textOf D l)) o ∷ []) _ (one-refuses, (one-refuses, (one-refuses, tt))) one-equal
+one-text D l o = one-decided (keeping o) (TooDeep deepest D ∷ Faulty D l 1 ∷ TooShort (length (textOf D l)) o ∷ []) _ (one-refuses, (one-refuses-first, (one-refuses, tt))) one-equal
 
 pub one-refused : (n p : ℕ) (o : List ℕ) → One (λ (t : Answer × List ℕ). RefusedOf n p o (t .0) (t .1))
 one-refused n p o = one-decided (keeping o) (TooShort (length (refusedText n p)) o ∷ []) _ (one-refuses, tt) one-equal

@@ -8,10 +8,11 @@ use lib.ListN.{getD, replicate}
 use Rattle.cells.specs.Answer.{given}
 use Rattle.cells.specs.Cell.{level, index, span, start, holds}
 use Rattle.cells.specs.declared.Answer.{Answer}
-use Rattle.cells.proofs.Decisions.{passes}
+use Rattle.cells.proofs.Decisions.{passes, opening-known}
 use Rattle.records.specs.Record.{black, Good}
 use Rattle.records.specs.Count.{count}
-use Rattle.records.proofs.CallLaws.{checked, no-fault}
+use Rattle.records.proofs.First.{good-passes}
+use Rattle.records.proofs.CallLaws.{checks}
 use Rattle.records.proofs.Instances.{check-holds}
 use Rattle.text.specs.Text.{digits, labels, pathLines, listing, textOf, TextOf, refusedText, RefusedOf}
 use Rattle.text.proofs.CallLaws.{one-text, one-refused}
@@ -22,7 +23,7 @@ abbrev one : List ℕ
 one = 559 ∷ []
 
 good : Good 3 one
-good = checked 3 one (given 1) check-holds refl .good
+good = opening-known (checks 3 one) (given 1) check-holds refl .good
 
 -- "depth 3 leaves 1 volume 1", "r057"
 abbrev pub printed : List ℕ
@@ -39,7 +40,7 @@ text-is = ap (listing 3 one) one-voxel
 
 -- 31 bytes, and one more, which stays
 pub text-holds : TextOf 3 one (replicate 32 7) (given 31) (printed ++ (7 ∷ []))
-text-holds = rw text-is (inr (passes (λ h. omega arith), inr (passes (no-fault 3 one good), inr (passes (λ h. omega arith), refl))))
+text-holds = rw text-is (inr (passes (λ h. omega arith), inr (good-passes 3 one 1 good, inr (passes (λ h. omega arith), refl))))
 
 pub text-fails : TextOf 3 one (replicate 32 7) (given 30) (printed ++ (7 ∷ [])) → ⊥
 text-fails h =

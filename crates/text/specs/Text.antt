@@ -5,7 +5,7 @@ use mathlib.Core.List.{List, [], _∷_, _++_}
 use Prim.Native.Nat.{ℕ, zero, suc, _+_, _/_, _%_, _^_}
 use lib.Dec.{ltb}
 use lib.ListN.{length}
-use Rattle.cells.specs.Answer.{given, Decided, keeping, TooDeep}
+use Rattle.cells.specs.Answer.{given, Decided, keeping, deepest, TooDeep}
 use Rattle.cells.specs.Cell.{level, index}
 use Rattle.cells.specs.declared.Answer.{Answer}
 use Rattle.records.specs.Record.{black}
@@ -57,7 +57,7 @@ textOf D l = listing D l (count (black D l) (8 ^ D))
 -- THE CALL list_text, of the list l to the bytes o: the answer r and the bytes o' afterwards
 abbrev pub TextOf : ℕ → List ℕ → List ℕ → Answer → List ℕ → Type 0
 TextOf D l o r o' =
-    Decided (keeping o) (TooDeep D ∷ Faulty D l 1 ∷ TooShort (length (textOf D l)) o ∷ [])
+    Decided (keeping o) (TooDeep deepest D ∷ Faulty D l 1 ∷ TooShort (length (textOf D l)) o ∷ [])
     (λ t. t ≡ (given (length (textOf D l)), stands (textOf D l) o)) (r, o')
 
 -- "refused "

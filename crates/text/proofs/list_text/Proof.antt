@@ -7,12 +7,13 @@ use lib.ListN.{length}
 use lib.Seq.{length-take-le}
 use Rattle.cells.specs.Answer.{given, keeping}
 use Rattle.cells.specs.declared.Answer.{Answer}
+use Rattle.cells.proofs.Decisions.{opening-refuses, opening-passes, opening-known}
 use Rattle.records.specs.Writing.{stands, TooShort}
 use Rattle.records.proofs.Writing.{Standing}
 use Rattle.text.specs.Text.{listing, textOf, TextOf}
 use Rattle.text.specs.Inner.{Put}
 use Rattle.text.proofs.Puts.{put-as}
-use Rattle.text.proofs.CallLaws.{text-short, text-stands, Measured, volume-first, volume-next, measured}
+use Rattle.text.proofs.CallLaws.{text-short, text-stands, Measured, measures}
 use Rattle.text.proofs.list_text.Statement.{statement}
 use Rattle.text.proofs.list_text.Tie as tie
 
@@ -39,7 +40,7 @@ module _ (c : tie.After-volume) where
 returns : tie.Need-returns
 returns c =
     let v = c .before in
-    volume-first (s v .args .depth) (l v) (v .volume .result) (v .volume .ensures) (keeping (o v)) (TooShort (length (t v)) (o v) ∷ []) (Wrote v) (c .if1 .taken)
+    opening-refuses (measures (s v .args .depth) (l v)) (v .volume .result) (v .volume .ensures) (keeping (o v)) (TooShort (length (t v)) (o v) ∷ []) (Wrote v) (c .if1 .taken)
 
 -- ---- a good list
 
@@ -51,14 +52,14 @@ module _ (c : tie.Else1) where
   none = search needs
 
   good : Measured (s v .args .depth) (l v) (v .volume .result .place)
-  good = measured (s v .args .depth) (l v) (v .volume .result) (v .volume .ensures) none
+  good = opening-known (measures (s v .args .depth) (l v)) (v .volume .result) (v .volume .ensures) none
 
   -- the text that is put is the listing
   listed : {b after : List ℕ} {r : ℕ} → Put b 0 (listing (s v .args .depth) (l v) (v .volume .result .place)) after r → Put b 0 (t v) after r
   listed p = put-as (ap (listing (s v .args .depth) (l v)) (good .is-volume)) p
 
   told : {r : Answer} {after : List ℕ} → Standing (t v) (o v) (r, after) → TextOf (s v .args .depth) (l v) (o v) r after
-  told d = volume-next (s v .args .depth) (l v) (v .volume .result) (v .volume .ensures) (keeping (o v)) (TooShort (length (t v)) (o v) ∷ []) (Wrote v) _ none d
+  told d = opening-passes (measures (s v .args .depth) (l v)) (v .volume .result) (v .volume .ensures) (keeping (o v)) (TooShort (length (t v)) (o v) ∷ []) (Wrote v) _ none d
 
 returns-2 : tie.Need-returns-2
 returns-2 c =
