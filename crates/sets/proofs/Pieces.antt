@@ -11,33 +11,33 @@ use Rattle.emit.specs.declared.inner.Runs.{Runs}
 use Rattle.emit.specs.Inner.{fresh, Fed}
 use Rattle.emit.proofs.Runs.{fed-white, fed-then}
 use Rattle.sets.specs.declared.Op.{Op}
-use Rattle.sets.specs.declared.Op.the-variants.{Join, Meet, Less}
+use Rattle.sets.specs.declared.Op.the-variants.{Join, Intersect, Subtract}
 use Rattle.sets.specs.declared.inner.Cursor.{Cursor}
 use Rattle.sets.specs.declared.inner.Side.{Side}
-use Rattle.sets.specs.Sets.{Takes, Taken}
-use Rattle.sets.specs.Inner.{taken, both, Points, Steady}
+use Rattle.sets.specs.Sets.{Takes, InResult}
+use Rattle.sets.specs.Inner.{coloured, both, Points, Steady}
 use Rattle.sets.proofs.Cursors.{points-later}
 
 -- what is white in both lists is white in the result
-taken-none : (op : Op) → taken op false false ≡ false
+taken-none : (op : Op) → coloured op false false ≡ false
 taken-none Join = refl
-taken-none Meet = refl
-taken-none Less = refl
+taken-none Intersect = refl
+taken-none Subtract = refl
 
 -- the test of a voxel's colours says what the result takes
-takes-is : (op : Op) (a b : Bool) → (taken op a b ≡ true) ↔ Takes op (a ≡ true) (b ≡ true)
+takes-is : (op : Op) (a b : Bool) → (coloured op a b ≡ true) ↔ Takes op (a ≡ true) (b ≡ true)
 takes-is Join true b = (λ e. inl refl, λ t. refl)
 takes-is Join false true = (λ e. inr refl, λ t. refl)
 takes-is Join false false = (λ e. inl e, λ t. ⊎-elim (λ e. e) (λ e. e) t)
-takes-is Meet true true = (λ e. (refl, refl), λ t. refl)
-takes-is Meet true false = (λ e. (refl, e), λ t. t .1)
-takes-is Meet false b = (λ e. absurd (false≢true e), λ t. t .0)
-takes-is Less true true = (λ e. absurd (false≢true e), λ t. absurd (t .1 refl))
-takes-is Less true false = (λ e. (refl, false≢true), λ t. refl)
-takes-is Less false b = (λ e. absurd (false≢true e), λ t. t .0)
+takes-is Intersect true true = (λ e. (refl, refl), λ t. refl)
+takes-is Intersect true false = (λ e. (refl, e), λ t. t .1)
+takes-is Intersect false b = (λ e. absurd (false≢true e), λ t. t .0)
+takes-is Subtract true true = (λ e. absurd (false≢true e), λ t. absurd (t .1 refl))
+takes-is Subtract true false = (λ e. (refl, false≢true), λ t. refl)
+takes-is Subtract false b = (λ e. absurd (false≢true e), λ t. t .0)
 
 module _ (op : Op) (D : ℕ) (a b : List ℕ) where
-  pub exactly : (v : ℕ) → v < 8 ^ D → (both op D a b v ≡ true) ↔ Taken op D a b v
+  pub exactly : (v : ℕ) → v < 8 ^ D → (both op D a b v ≡ true) ↔ InResult op D a b v
   unfolding both
   exactly v h = takes-is op (black D a v) (black D b v)
 
@@ -45,7 +45,7 @@ module _ (op : Op) (D : ℕ) (a b : List ℕ) where
   pub record Piece (x y : Cursor) (v : ℕ) (s t : Bool) (next : ℕ) : Type 0 where
     pub some : v < next
     pub root : next ≤ 8 ^ D
-    pub same : (w : ℕ) → v ≤ w → w < next → both op D a b w ≡ taken op s t
+    pub same : (w : ℕ) → v ≤ w → w < next → both op D a b w ≡ coloured op s t
     pub left : next ≤ x .to
     pub right : next ≤ y .to
 
@@ -54,7 +54,7 @@ module _ (op : Op) (D : ℕ) (a b : List ℕ) where
   piece x y v s t next p f g e = record {
     some = omega (arith, f .some, g .some);
     root = omega (arith, f .reach, p .behind .root);
-    same = λ w h k. ap₂ (taken op) (f .same w h (omega arith)) (g .same w h (omega arith));
+    same = λ w h k. ap₂ (coloured op) (f .same w h (omega arith)) (g .same w h (omega arith));
     left = omega (arith, f .reach);
     right = omega (arith, g .reach);
   }
@@ -81,7 +81,7 @@ module _ (op : Op) (D : ℕ) (a b : List ℕ) where
       q = s .right
 
       white : (u : ℕ) → v ≤ u → u < w → both op D a b u ≡ false
-      white u h k = ap₂ (taken op) (p .before u h (omega arith)) (q .before u h (omega arith)) ∙ taken-none op
+      white u h k = ap₂ (coloured op) (p .before u h (omega arith)) (q .before u h (omega arith)) ∙ taken-none op
 
       -- the jump goes no further than each leaf
       reached : {l : List ℕ} {c : Cursor} → Points D l c v → min (x .from) (y .from) ≤ c .from → w < 8 ^ D → w < c .to

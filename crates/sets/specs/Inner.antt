@@ -6,19 +6,19 @@ use Prim.Native.Nat.{ℕ, suc, _^_, _<_, _≤_}
 use lib.ListN.{length, drop}
 use Rattle.records.specs.Record.{black, Ordered}
 use Rattle.sets.specs.declared.Op.{Op}
-use Rattle.sets.specs.declared.Op.the-variants.{Join, Meet, Less}
+use Rattle.sets.specs.declared.Op.the-variants.{Join, Intersect, Subtract}
 use Rattle.sets.specs.declared.inner.Cursor.{Cursor}
 use Rattle.sets.specs.declared.inner.Side.{Side}
 
 -- whether a voxel is black in the result, from its colours in the two lists
-abbrev pub taken : Op → Bool → Bool → Bool
-taken Join a b = a || b
-taken Meet a b = a && b
-taken Less a b = a && not b
+abbrev pub coloured : Op → Bool → Bool → Bool
+coloured Join a b = a || b
+coloured Intersect a b = a && b
+coloured Subtract a b = a && not b
 
 -- the voxels of the result
 unfoldable pub both : Op → ℕ → List ℕ → List ℕ → ℕ → Bool
-both op D a b v = taken op (black D a v) (black D b v)
+both op D a b v = coloured op (black D a v) (black D b v)
 
 -- from voxel v on, the list l is its leaves from index i on, and none of these starts before v
 pub record Behind (D : ℕ) (l : List ℕ) (i v : ℕ) : Type 0 where

@@ -16,8 +16,8 @@ ghost use Rattle.cells.specs.Answer.{Decided, keeping, deepest};
 ghost use Rattle.records.specs.Record.{Ordered};
 ghost use Rattle.records.specs.Writing.{Crowded, Written};
 ghost use Rattle.emit.specs.Inner.{Result};
-ghost use Rattle.sets.specs.Sets.{Taken};
-ghost use Rattle.sets.specs.Inner.{taken, both, Behind, Points, Steady};
+ghost use Rattle.sets.specs.Sets.{InResult};
+ghost use Rattle.sets.specs.Inner.{coloured, both, Behind, Points, Steady};
 
 // A leaf of a list: its index, its least voxel number and the one after its last. Past the last leaf both are the root's end.
 pub struct Cursor {
@@ -33,12 +33,12 @@ pub struct Side {
 }
 
 fn takes(op: Op, a: bool, b: bool) -> bool
-    ensures { λ r. ⌜ r ≡ taken op a b ⌝ }
+    ensures { λ r. ⌜ r ≡ coloured op a b ⌝ }
 {
     match op {
         Op::Join => a || b,
-        Op::Meet => a && b,
-        Op::Less => a && !b,
+        Op::Intersect => a && b,
+        Op::Subtract => a && !b,
     }
 }
 
@@ -134,8 +134,8 @@ fn sweep(op: Op, depth: u32, a: &[u32], b: &[u32], out: &mut [u32]) -> usize
 // The first sweep counts: it has the empty part of `out`, into which nothing is put.
 pub fn combine(op: Op, depth: u32, a: &[u32], b: &[u32], out: &mut [u32]) -> Answer
     requires { ⌜ (depth ≤ deepest) × Ordered depth 0 (now a) × Ordered depth 0 (now b) ⌝ }
-    ensures { λ r. ⌜ Decided (keeping (now (out .entry))) (Crowded depth (Taken op depth (now (a .entry)) (now (b .entry))) (now (out .entry)) ∷ [])
-        (Written depth (Taken op depth (now (a .entry)) (now (b .entry))) (now (out .entry))) (r, now (out .exit)) ⌝ }
+    ensures { λ r. ⌜ Decided (keeping (now (out .entry))) (Crowded depth (InResult op depth (now (a .entry)) (now (b .entry))) (now (out .entry)) ∷ [])
+        (Written depth (InResult op depth (now (a .entry)) (now (b .entry))) (now (out .entry))) (r, now (out .exit)) ⌝ }
 {
     let need = sweep(op, depth, a, b, &mut out[..0]);
     if out.len() < need {

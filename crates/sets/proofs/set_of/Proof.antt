@@ -1,76 +1,106 @@
 -- `sets::set_of` meets its contract: the tests of the depth and of the two lists, and what the sweep leaves past them. Assumes nothing.
 use mathlib.Core.Path.{_≡_, refl, ap}
 use mathlib.Core.Logic.{inl, inr}
+use mathlib.Core.List.{List, [], _∷_}
+use Prim.Native.Nat.{ℕ}
 use borrow.Author.Needs.{needs}
-use Rattle.cells.specs.Answer.{keeping}
-use Rattle.cells.proofs.Decisions.{passes, deep-enough}
-use Rattle.records.proofs.Walks.{found-refuses, found-passes}
+use Rattle.cells.specs.Answer.{Test, Decided, keeping}
+use Rattle.cells.specs.declared.Answer.{Answer}
+use Rattle.cells.proofs.Decisions.{passes, deep-enough, opening-refuses, opening-passes, opening-known}
+use Rattle.records.specs.Fault.{Faulty}
+use Rattle.records.specs.Writing.{Crowded, Written}
+use Rattle.records.proofs.CallLaws.{Checked, judges}
+use Rattle.sets.specs.Sets.{InResult, SetOf}
 use Rattle.sets.proofs.set_of.Statement.{statement}
 use Rattle.sets.proofs.set_of.Tie as tie
 
-returns : tie.Need-returns
-returns c =
-    let a = c .before .before .before .before .before .args in
-    inl (_, (c .before .if1 .taken, refl), ap (keeping (a .out .now)) (c .refusal .ensures))
+-- ---- the first list is judged
 
-returns-2 : tie.Need-returns-2
-returns-2 c =
-    let j = c .before .before in
-    let a = j .before .before .before .before .before .args in
-    inr (
-      passes (deep-enough (j .before .if1 .left)),
-      inl (_, found-refuses (a .depth) (a .a .now) (j .judge .result) (j .judge .ensures) 1 (c .before .if2 .taken), ap (keeping (a .out .now)) (c .refusal2 .ensures)),
-    )
+module _ (c : tie.After-judged) where
+  abbrev start : tie.Start
+  start = c .before .before .before .before .before
 
-returns-3 : tie.Need-returns-3
-returns-3 c =
-    let k = c .before .before in
-    let j = k .before .before in
-    let a = j .before .before .before .before .before .args in
-    let z : j .judge .result .number ≡ 0 = search needs in
-    inr (
-      passes (deep-enough (j .before .if1 .left)),
-      inr (
-        passes (found-passes (a .depth) (a .a .now) (j .judge .result) (j .judge .ensures) z),
-        inl (_, found-refuses (a .depth) (a .b .now) (k .judge2 .result) (k .judge2 .ensures) 2 (c .before .if3 .taken), ap (keeping (a .out .now)) (c .refusal3 .ensures)),
-      ),
-    )
+  abbrev D : ℕ
+  D = start .args .depth
+
+  abbrev a : List ℕ
+  a = start .args .a .now
+
+  abbrev b : List ℕ
+  b = start .args .b .now
+
+  abbrev o : List ℕ
+  o = start .args .out .now
+
+  -- the voxels of the result
+  abbrev Q : ℕ → Type 0
+  Q = InResult (start .args .op) D a b
+
+  -- the tests after that of the first list, and of the second; what such a row leaves
+  abbrev after-first : List Test
+  after-first = Faulty D b 2 ∷ Crowded D Q o ∷ []
+
+  abbrev after-second : List Test
+  after-second = Crowded D Q o ∷ []
+
+  abbrev Rest : List Test → Answer × List ℕ → Type 0
+  Rest Fs = Decided (keeping o) Fs (Written D Q o)
+
+  -- its fault is told, or the second list decides
+  first-refuses : (c .judged .result .number ≡ 0 → ⊥) → SetOf (start .args .op) D a b o (c .judged .result) o
+  first-refuses some = inr (passes (deep-enough (c .before .if1 .left)), opening-refuses (judges D a 1 (c .before .if1 .left)) _ (c .judged .ensures) (keeping o) after-first (Written D Q o) some)
+
+  first-passes : {r : Answer} {after : List ℕ} → c .judged .result .number ≡ 0 → Rest after-first (r, after) → SetOf (start .args .op) D a b o r after
+  first-passes z d = inr (passes (deep-enough (c .before .if1 .left)), opening-passes (judges D a 1 (c .before .if1 .left)) _ (c .judged .ensures) (keeping o) after-first (Written D Q o) _ z d)
+
+  first-good : c .judged .result .number ≡ 0 → Checked D a (c .judged .result .place)
+  first-good z = opening-known (judges D a 1 (c .before .if1 .left)) _ (c .judged .ensures) z
+
+-- ---- and the second
+
+module _ (c : tie.After-judged2) where
+  abbrev at-first : tie.After-judged
+  at-first = c .before .before
+
+  none : at-first .judged .result .number ≡ 0
+  none = search needs
+
+  second-refuses : (c .judged2 .result .number ≡ 0 → ⊥) → SetOf (start at-first .args .op) (D at-first) (a at-first) (b at-first) (o at-first) (c .judged2 .result) (o at-first)
+  second-refuses some =
+      let p = at-first in
+      first-passes p none (opening-refuses (judges (D p) (b p) 2 (p .before .if1 .left)) _ (c .judged2 .ensures) (keeping (o p)) (after-second p) (Written (D p) (Q p) (o p)) some)
+
+  second-passes : {r : Answer} {after : List ℕ} → c .judged2 .result .number ≡ 0 → Rest at-first (after-second at-first) (r, after)
+      → SetOf (start at-first .args .op) (D at-first) (a at-first) (b at-first) (o at-first) r after
+  second-passes z d =
+      let p = at-first in
+      first-passes p none (opening-passes (judges (D p) (b p) 2 (p .before .if1 .left)) _ (c .judged2 .ensures) (keeping (o p)) (after-second p) (Written (D p) (Q p) (o p)) _ z d)
+
+  second-good : c .judged2 .result .number ≡ 0 → Checked (D at-first) (b at-first) (c .judged2 .result .place)
+  second-good z = opening-known (judges (D at-first) (b at-first) 2 (at-first .before .if1 .left)) _ (c .judged2 .ensures) z
 
 combine-requires : tie.Need-combine-requires
 combine-requires c κs =
     let k = c .before .before in
-    let j = k .before .before in
-    let z : j .judge .result .number ≡ 0 = search needs in
-    let y : k .judge2 .result .number ≡ 0 = search needs in
-    (j .before .if1 .left, j .judge .ensures .good z .ordered, k .judge2 .ensures .good y .ordered)
+    let z : k .judged2 .result .number ≡ 0 = search needs in
+    (at-first k .before .if1 .left, first-good (at-first k) (none k) .good .ordered, second-good k z .good .ordered)
 
 returns-4 : tie.Need-returns-4
 returns-4 c =
     let k = c .before .before .before .before .before in
-    let j = k .before .before in
-    let a = j .before .before .before .before .before .args in
-    let z : j .judge .result .number ≡ 0 = search needs in
-    let y : k .judge2 .result .number ≡ 0 = search needs in
-    inr (
-      passes (deep-enough (j .before .if1 .left)),
-      inr (
-        passes (found-passes (a .depth) (a .a .now) (j .judge .result) (j .judge .ensures) z),
-        inr (passes (found-passes (a .depth) (a .b .now) (k .judge2 .result) (k .judge2 .ensures) y), c .before .before .combine .ensures),
-      ),
-    )
+    let z : k .judged2 .result .number ≡ 0 = search needs in
+    second-passes k z (c .before .before .combine .ensures)
 
 pub set-of-spec : {M : Type 1} → statement M
 set-of-spec =
     tie.close
     (tie.spec
     (λ c κs. search needs)
-    returns
+    (λ c. inl (_, (c .before .if1 .taken, refl), ap (keeping (c .before .before .before .before .before .args .out .now)) (c .refusal .ensures)))
     (λ c κs. search needs)
+    (λ c. first-refuses (c .before) (c .if2 .taken))
     (λ c κs. search needs)
-    returns-2
-    (λ c κs. search needs)
-    (λ c κs. search needs)
-    returns-3
+    (λ c. second-refuses (c .before) (c .if3 .taken))
     combine-requires
     (λ c. search needs)
     returns-4)
