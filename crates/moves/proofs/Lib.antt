@@ -2,6 +2,5 @@
 pub mod Acceptance
 -- the shift back to the sources gives the displaced voxels
 pub mod Back
--- what follows of the call, and instances
+-- what follows of the call
 pub mod MoveLaws
-pub mod Instances

@@ -7,13 +7,13 @@ use lib.Dec.{leb}
 use lib.IntN.{ℤ, pos, negsuc}
 use lib.ListN.{length, getD}
 use Rattle.cells.specs.Cell.{side}
-use Rattle.cells.specs.Place.{number, corner}
+use Rattle.cells.specs.Place.{allAxes, number, corner}
 use Rattle.moves.specs.declared.inner.Parted.{Parted}
 
 -- d is up - down, and one of the two is 0
-abbrev pub Parts : ℤ → Parted → Type 0
-Parts (pos n) p = (p .up ≡ n) × (p .down ≡ 0)
-Parts (negsuc n) p = (p .up ≡ 0) × (p .down ≡ suc n)
+abbrev pub Splits : ℤ → Parted → Type 0
+Splits (pos n) p = (p .up ≡ n) × (p .down ≡ 0)
+Splits (negsuc n) p = (p .up ≡ 0) × (p .down ≡ suc n)
 
 -- whether the s places from x on, displaced by d, stay below the side w
 abbrev pub keeps : ℕ → ℕ → ℕ → Parted → Bool
@@ -23,19 +23,19 @@ keeps w x s d = leb (d .down) (x + d .up) && leb (x + s + d .up) (w + d .down)
 unfoldable pub keepsAlong : ℕ → ℕ → Parted → ℕ → Bool
 keepsAlong D b d c = keeps (2 ^ D) (corner b D c) (side D c) d
 
-unfoldable pub leafKeeps : ℕ → Parted → Parted → Parted → ℕ → Bool
-leafKeeps D x y z c = keepsAlong D 1 x c && (keepsAlong D 2 y c && keepsAlong D 4 z c)
+unfoldable pub leafKeeps : ℕ → (ℕ → Parted) → ℕ → Bool
+leafKeeps D p c = allAxes (λ a. keepsAlong D (2 ^ a) (p a) c)
 
 -- r is the first index whose leaf does not stay, the length where all stay
-pub record FirstOut (D : ℕ) (x y z : Parted) (l : List ℕ) (r : ℕ) : Type 0 where
+pub record FirstOut (D : ℕ) (p : ℕ → Parted) (l : List ℕ) (r : ℕ) : Type 0 where
   pub within : r ≤ length l
-  pub before : (i : ℕ) → i < r → leafKeeps D x y z (getD l i 0) ≡ true
-  pub here : r < length l → leafKeeps D x y z (getD l r 0) ≡ false
+  pub before : (i : ℕ) → i < r → leafKeeps D p (getD l i 0) ≡ true
+  pub here : r < length l → leafKeeps D p (getD l r 0) ≡ false
 
 -- a displacement turned round, modulo the root's side
 unfoldable pub turned : ℕ → Parted → ℕ
 turned D d = (d .down % 2 ^ D + (2 ^ D - d .up % 2 ^ D)) % 2 ^ D
 
 -- the voxel number that, added along each axis modulo the side, takes a displaced voxel back to where it came from
-unfoldable pub back : ℕ → Parted → Parted → Parted → ℕ
-back D x y z = number D (turned D x) (turned D y) (turned D z)
+unfoldable pub back : ℕ → (ℕ → Parted) → ℕ
+back D p = number D (turned D (p 0)) (turned D (p 1)) (turned D (p 2))

@@ -8,8 +8,9 @@ ghost use mathlib.Core.Bool.{true};
 ghost use Prim.Native.Nat.{_≤_, _<_};
 ghost use Rattle.cells.specs.Answer.{deepest};
 ghost use Rattle.cells.specs.Cell.{proper};
+ghost use Rattle.cells.specs.Place.{axes};
 ghost use Rattle.records.specs.Record.{Ordered};
-ghost use Rattle.moves.specs.Inner.{Parts, keeps, keepsAlong, leafKeeps, FirstOut, turned, back};
+ghost use Rattle.moves.specs.Inner.{Splits, keeps, keepsAlong, leafKeeps, FirstOut, turned, back};
 
 // A displacement along one axis: up - down, one of them 0.
 pub struct Parted {
@@ -19,7 +20,7 @@ pub struct Parted {
 
 // The parts of a signed number. The difference is taken in 64 bits, where -2^31 has its size.
 pub fn part(d: i32) -> Parted
-    ensures { λ r. ⌜ Parts d r ⌝ }
+    ensures { λ r. ⌜ Splits d r ⌝ }
 {
     if 0 <= d {
         return Parted {
@@ -58,7 +59,7 @@ pub fn axis_stays(b: u32, depth: u32, code: u32, d: Parted) -> bool
 // Whether each voxel of the leaf, displaced, stays in the root.
 pub fn leaf_stays(depth: u32, code: u32, x: Parted, y: Parted, z: Parted) -> bool
     requires { ⌜ (depth ≤ deepest) × (proper depth code ≡ true) ⌝ }
-    ensures { λ r. ⌜ r ≡ leafKeeps depth x y z code ⌝ }
+    ensures { λ r. ⌜ r ≡ leafKeeps depth (axes x y z) code ⌝ }
 {
     if !axis_stays(1, depth, code, x) {
         return false;
@@ -69,10 +70,10 @@ pub fn leaf_stays(depth: u32, code: u32, x: Parted, y: Parted, z: Parted) -> boo
     axis_stays(4, depth, code, z)
 }
 
-// The index of the first leaf that leaves the root, or the leaf count.
-pub fn first_leaves(depth: u32, list: &[u32], x: Parted, y: Parted, z: Parted) -> usize
+// The index of the first leaf that strays from the root, or the leaf count.
+pub fn first_stray(depth: u32, list: &[u32], x: Parted, y: Parted, z: Parted) -> usize
     requires { ⌜ (depth ≤ deepest) × Ordered depth 0 (now list) ⌝ }
-    ensures { λ r. ⌜ FirstOut depth x y z (now (list .entry)) r ⌝ }
+    ensures { λ r. ⌜ FirstOut depth (axes x y z) (now (list .entry)) r ⌝ }
 {
     let mut i: usize = 0;
     while i < list.len() {
@@ -99,7 +100,7 @@ pub fn turn(depth: u32, d: Parted) -> u32
 // The shift that takes each displaced voxel back to where it came from.
 pub fn backwards(depth: u32, x: Parted, y: Parted, z: Parted) -> u32
     requires { ⌜ depth ≤ deepest ⌝ }
-    ensures { λ r. ⌜ r ≡ back depth x y z ⌝ }
+    ensures { λ r. ⌜ r ≡ back depth (axes x y z) ⌝ }
 {
     number_of(depth, turn(depth, x), turn(depth, y), turn(depth, z))
 }

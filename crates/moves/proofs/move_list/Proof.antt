@@ -8,8 +8,11 @@ use mir.Syntax.{w32}
 use mir.Val.{toZ, ofZ}
 use mir.Facts.{toZ-ofZ}
 use Rattle.cells.specs.Answer.{Decided, keeping}
+use Rattle.cells.specs.Place.{axes}
 use Rattle.cells.specs.declared.Answer.{Answer}
-use Rattle.records.proofs.CallLaws.{Checked, check-first, check-next, checked}
+use Rattle.cells.proofs.Decisions.{opening-refuses, opening-passes, opening-known}
+use Rattle.cells.proofs.Places.{each-axis}
+use Rattle.records.proofs.CallLaws.{Checked, checks}
 use Rattle.metres.specs.Metres.{moveTests}
 use Rattle.metres.specs.declared.Move.{Move}
 use Rattle.metres.specs.declared.Move.the-variants as the-move
@@ -27,13 +30,13 @@ module _ (c : tie.Else1) where
   none = search needs
 
   pass : Checked (s .args .depth) (s .args .list .now) (c .before .check .result .place)
-  pass = checked (s .args .depth) (s .args .list .now) (c .before .check .result) (c .before .check .ensures) none
+  pass = opening-known (checks (s .args .depth) (s .args .list .now)) (c .before .check .result) (c .before .check .ensures) none
 
   next : (t : Answer × List ℕ) → Decided (keeping (s .args .out .now)) (moveTests (s .args .m)) (ByVoxels (s .args .depth) (s .args .list .now) (s .args .m) (s .args .out .now)) t
       → MoveOf (s .args .depth) (s .args .list .now) (s .args .m) (s .args .out .now) (t .0) (t .1)
   next t d =
       let a = s .args in
-      check-next (a .depth) (a .list .now) (c .before .check .result) (c .before .check .ensures) (keeping (a .out .now)) (moveTests (a .m)) (ByVoxels (a .depth) (a .list .now) (a .m) (a .out .now)) t none d
+      opening-passes (checks (a .depth) (a .list .now)) (c .before .check .result) (c .before .check .ensures) (keeping (a .out .now)) (moveTests (a .m)) (ByVoxels (a .depth) (a .list .now) (a .m) (a .out .now)) t none d
 
 -- ---- the needs
 
@@ -41,7 +44,7 @@ returns : tie.Need-returns
 returns c =
     let t = c .before in
     let a = t .before .before .before .args in
-    check-first (a .depth) (a .list .now) (t .check .result) (t .check .ensures) (keeping (a .out .now)) (moveTests (a .m)) (ByVoxels (a .depth) (a .list .now) (a .m) (a .out .now)) (c .if1 .taken)
+    opening-refuses (checks (a .depth) (a .list .now)) (t .check .result) (t .check .ensures) (keeping (a .out .now)) (moveTests (a .m)) (ByVoxels (a .depth) (a .list .now) (a .m) (a .out .now)) (c .if1 .taken)
 
 move-whole-requires : tie.Need-move-whole-requires
 move-whole-requires c κs = let k = pass (c .before .before .before .before) in (k .shallow, k .good .ordered)
@@ -62,10 +65,10 @@ returns-2 c =
     let y : toZ w32 (ofZ w32 (g .1 .0)) ≡ g .1 .0 = toZ-ofZ {w = w32} {z = g .1 .0} (record { sfits = f .1 .0 .1 }) in
     let z : toZ w32 (ofZ w32 (g .1 .1 .0)) ≡ g .1 .1 .0 = toZ-ofZ {w = w32} {z = g .1 .1 .0} (record { sfits = f .1 .1 .0 .1 }) in
     let left : Answer × List ℕ = (w .result, w .last .1 .1 .1 .1 .1 .0) in
-    let moved : ShiftOf (a .depth) (a .list .now) (g .0) (g .1 .0) (g .1 .1 .0) (a .out .now) left = rw (x, y, z) at (w .ensures) in
+    let moved : ShiftOf (a .depth) (a .list .now) (axes (g .0) (g .1 .0) (g .1 .1 .0)) (a .out .now) left = rw (x, y, z) at (w .ensures) in
     next e left
     (subst (λ (m : Move). Decided (keeping (a .out .now)) (moveTests m) (ByVoxels (a .depth) (a .list .now) m (a .out .now)) left) (sym (t .m .given .1))
-    (g .0, g .1 .0, g .1 .1 .0, (refl, refl, refl), moved))
+    (g .0, g .1 .0, g .1 .1 .0, each-axis _ refl refl refl, moved))
 
 -- metres: their tests
 returns-3 : tie.Need-returns-3

@@ -8,6 +8,7 @@ use mir.Syntax.{w32}
 use mir.Val.{toZ, ofZ}
 use mir.Facts.{toZ-ofZ}
 use Rattle.cells.specs.Answer.{Decided, keeping}
+use Rattle.cells.specs.Place.{axes}
 use Rattle.cells.specs.declared.Answer.{Answer}
 use Rattle.metres.specs.Metres.{moveTests}
 use Rattle.metres.specs.Taken.{TakenOf}
@@ -41,7 +42,7 @@ returns-2 c =
     let y : toZ w32 (ofZ w32 (g .1 .0)) ≡ g .1 .0 = toZ-ofZ {w = w32} {z = g .1 .0} (record { sfits = f .1 .0 .1 }) in
     let z : toZ w32 (ofZ w32 (g .1 .1 .0)) ≡ g .1 .1 .0 = toZ-ofZ {w = w32} {z = g .1 .1 .0} (record { sfits = f .1 .1 .0 .1 }) in
     let told : TakenOf (a .d) (Voxels (g .0) (g .1 .0) (g .1 .1 .0)) = subst (TakenOf (a .d)) (t .taken2 .given .1) (v .in-voxels .ensures) in
-    let moved : ShiftOf (a .depth) (a .list .now) (g .0) (g .1 .0) (g .1 .1 .0) (a .out .now) (w .result, w .last .1 .1 .1 .1 .1 .0) = rw (x, y, z) at (w .ensures) in
+    let moved : ShiftOf (a .depth) (a .list .now) (axes (g .0) (g .1 .0) (g .1 .1 .0)) (a .out .now) (w .result, w .last .1 .1 .1 .1 .1 .0) = rw (x, y, z) at (w .ensures) in
     whole-decides (keeping (a .out .now)) (ByVoxels (a .depth) (a .list .now) (the-move.Metres (a .d)) (a .out .now)) (a .d) (g .0) (g .1 .0) (g .1 .1 .0) (w .result, w .last .1 .1 .1 .1 .1 .0) told
     (λ becomes. (g .0, g .1 .0, g .1 .1 .0, becomes, moved))
 

@@ -9,52 +9,66 @@ use lib.IntN.{ℤ}
 use mir.Syntax.{w32}
 use mir.ValLaws.{toZ-ofZ}
 use Rattle.cells.specs.Answer.{keeping}
+use Rattle.cells.specs.Place.{axes, EachAxis, Came}
 use Rattle.cells.specs.declared.Answer.{Answer}
+use Rattle.cells.proofs.Places.{each-axis}
+use Rattle.records.specs.Carried.{FromBlack}
+use Rattle.records.proofs.Carrying.{Accepted, accepted-passes}
 use Rattle.emit.proofs.Answers.{Told, crowded, written}
 use Rattle.shifts.specs.Shift.{shifted}
-use Rattle.moves.specs.Moves.{FromBlack, ShiftOf}
-use Rattle.moves.specs.Inner.{Parts, back}
-use Rattle.moves.proofs.Acceptance.{AllParts, all-parts, Accepted, accepted-stays, first-leaves, all-stay}
+use Rattle.moves.specs.Moves.{ShiftOf}
+use Rattle.moves.specs.Inner.{Splits, back}
+use Rattle.moves.specs.declared.inner.Parted.{Parted}
+use Rattle.moves.proofs.Acceptance.{out-strays, out-stays}
 use Rattle.moves.proofs.Back.{shifted-exactly}
 use Rattle.moves.proofs.move_whole.Statement.{statement}
 use Rattle.moves.proofs.move_whole.Tie as tie
 
 -- ---- acceptance
 
-module _ (c : tie.After-first-leaves) where
+module _ (c : tie.After-first-stray) where
   abbrev s : tie.Start
   s = c .before .before .before .before .before .before
 
-  -- the parts of the three displacements, as the machine reads them back from their bits
-  parts : AllParts (s .args .dx) (s .args .dy) (s .args .dz) (c .before .before .before .part .result) (c .before .before .part2 .result) (c .before .part3 .result)
-  parts =
-      all-parts (s .args .dx) (s .args .dy) (s .args .dz) (c .before .before .before .part .result) (c .before .before .part2 .result) (c .before .part3 .result)
-      (subst (λ (z : ℤ). Parts z (c .before .before .before .part .result)) (toZ-ofZ w32 (s .args .dx) (s .fits .dx)) (c .before .before .before .part .ensures))
-      (subst (λ (z : ℤ). Parts z (c .before .before .part2 .result)) (toZ-ofZ w32 (s .args .dy) (s .fits .dy)) (c .before .before .part2 .ensures))
-      (subst (λ (z : ℤ). Parts z (c .before .part3 .result)) (toZ-ofZ w32 (s .args .dz) (s .fits .dz)) (c .before .part3 .ensures))
+  -- the displacement, and the parts of it that were worked out
+  abbrev d : ℕ → ℤ
+  d = axes (s .args .dx) (s .args .dy) (s .args .dz)
+
+  abbrev p : ℕ → Parted
+  p = axes (c .before .before .before .part .result) (c .before .before .part2 .result) (c .before .part3 .result)
+
+  -- the machine reads each displacement back from its bits
+  split : EachAxis (λ a. Splits (d a) (p a))
+  split =
+      each-axis (λ a. Splits (d a) (p a))
+      (subst (λ (z : ℤ). Splits z (p 0)) (toZ-ofZ w32 (s .args .dx) (s .fits .dx)) (c .before .before .before .part .ensures))
+      (subst (λ (z : ℤ). Splits z (p 1)) (toZ-ofZ w32 (s .args .dy) (s .fits .dy)) (c .before .before .part2 .ensures))
+      (subst (λ (z : ℤ). Splits z (p 2)) (toZ-ofZ w32 (s .args .dz) (s .fits .dz)) (c .before .part3 .ensures))
 
 module _ (e : tie.Else1) where
   abbrev b : tie.Start
   b = s (e .before)
 
-  accepted : Accepted (b .args .depth) (b .args .dx) (b .args .dy) (b .args .dz) (b .args .list .now)
+  -- where the voxels are carried
+  abbrev R : ℕ → ℕ → Type 0
+  R = Came (b .args .depth) (d (e .before))
+
+  accepted : Accepted (b .args .depth) R (b .args .list .now)
   accepted =
       let a = b .args in
-      all-stay (a .depth) (a .list .now) (b .pre .1) (a .dx) (a .dy) (a .dz) _ _ _ (parts (e .before)) (e .before .first-leaves .result) (e .before .first-leaves .ensures) (e .if1 .left)
+      out-stays (a .depth) (d (e .before)) (p (e .before)) (split (e .before)) (a .list .now) (b .pre .1) (e .before .first-stray .result) (e .before .first-stray .ensures) (e .if1 .left)
 
   -- the shift back gives the displaced voxels
-  voxels : (w : ℕ) → w ≡ back (b .args .depth) (e .before .before .before .before .part .result) (e .before .before .before .part2 .result) (e .before .before .part3 .result)
-      → (v : ℕ) → v < 8 ^ b .args .depth → (shifted (b .args .depth) (b .args .list .now) w v ≡ true) ↔ FromBlack (b .args .depth) (b .args .dx) (b .args .dy) (b .args .dz) (b .args .list .now) v
+  voxels : (w : ℕ) → w ≡ back (b .args .depth) (p (e .before))
+      → (v : ℕ) → v < 8 ^ b .args .depth → (shifted (b .args .depth) (b .args .list .now) w v ≡ true) ↔ FromBlack (b .args .depth) R (b .args .list .now) v
   voxels w is v h =
       let a = b .args in
-      rw is (shifted-exactly (a .depth) (a .dx) (a .dy) (a .dz) _ _ _ (parts (e .before)) (a .list .now) (b .pre .1) accepted v h)
+      rw is (shifted-exactly (a .depth) (d (e .before)) (p (e .before)) (split (e .before)) (a .list .now) (b .pre .1) accepted v h)
 
   -- past the test, the room decides
-  next : {t : Answer × List ℕ} → Told (b .args .depth) (FromBlack (b .args .depth) (b .args .dx) (b .args .dy) (b .args .dz) (b .args .list .now)) (b .args .out .now) t
-      → ShiftOf (b .args .depth) (b .args .list .now) (b .args .dx) (b .args .dy) (b .args .dz) (b .args .out .now) t
-  next told =
-      let a = b .args in
-      inr ((λ r (i, F, _). accepted-stays (a .depth) (a .dx) (a .dy) (a .dz) (a .list .now) accepted i (F .within) (F .leaves)), told)
+  next : {t : Answer × List ℕ} → Told (b .args .depth) (FromBlack (b .args .depth) R (b .args .list .now)) (b .args .out .now) t
+      → ShiftOf (b .args .depth) (b .args .list .now) (d (e .before)) (b .args .out .now) t
+  next told = inr (accepted-passes (b .args .depth) R (b .args .list .now) accepted, told)
 
 -- ---- the needs
 
@@ -63,8 +77,8 @@ returns c =
     let t = c .before in
     let f = t .before in
     let a = s f .args in
-    let F = first-leaves (a .depth) (a .list .now) (s f .pre .1) (a .dx) (a .dy) (a .dz) _ _ _ (parts f) (f .first-leaves .result) (f .first-leaves .ensures) (t .if1 .taken) in
-    inl (_, (f .first-leaves .result, F, refl), ap (keeping (a .out .now)) (c .refusal .ensures))
+    let F = out-strays (a .depth) (d f) (p f) (split f) (a .list .now) (s f .pre .1) (f .first-stray .result) (f .first-stray .ensures) (t .if1 .taken) in
+    inl (_, (f .first-stray .result, F, refl), ap (keeping (a .out .now)) (c .refusal .ensures))
 
 returns-2 : tie.Need-returns-2
 returns-2 c =

@@ -11,7 +11,7 @@ use lib.Signed.{leZ, nonNeg}
 use mir.Syntax.{w32, w64}
 use mir.Val.{SFits, Fits, toZ, ofZ}
 use mir.ValLaws.{toZ-ofZ}
-use Rattle.moves.specs.Inner.{Parts}
+use Rattle.moves.specs.Inner.{Splits}
 use Rattle.moves.proofs.inner.part.Statement.{statement}
 use Rattle.moves.proofs.inner.part.Tie as tie
 
@@ -21,7 +21,7 @@ up-fits : (d : ℤ) → SFits w32 d → leZ (pos 0) d ≡ true → T (nonNeg d) 
 up-fits (pos n) f h = (tt, record { fits = omega (arith, f .sfits) })
 up-fits (negsuc n) f h = absurd (let z : _≡_ {A = ℕ} 0 1 = cc in omega arith)
 
-up-parts : (d : ℤ) → leZ (pos 0) d ≡ true → Parts d (record { up = natAbs d; down = 0 })
+up-parts : (d : ℤ) → leZ (pos 0) d ≡ true → Splits d (record { up = natAbs d; down = 0 })
 up-parts (pos n) h = (refl, refl)
 up-parts (negsuc n) h = absurd (let z : _≡_ {A = ℕ} 0 1 = cc in omega arith)
 
@@ -39,7 +39,7 @@ down-fits : (d : ℤ) → SFits w32 d → leZ (pos 0) d ≡ false → T (nonNeg 
 down-fits (pos n) f h = absurd (let g = leb·zero n in let z : _≡_ {A = ℕ} 0 1 = cc in omega arith)
 down-fits (negsuc n) f h = (tt, record { fits = omega (arith, f .sfits) })
 
-down-parts : (d : ℤ) → leZ (pos 0) d ≡ false → Parts d (record { up = 0; down = natAbs (pos 0 -ℤ d) })
+down-parts : (d : ℤ) → leZ (pos 0) d ≡ false → Splits d (record { up = 0; down = natAbs (pos 0 -ℤ d) })
 down-parts (pos n) h = absurd (let g = leb·zero n in let z : _≡_ {A = ℕ} 0 1 = cc in omega arith)
 down-parts (negsuc n) h = (refl, zero-add (suc n))
 
@@ -76,7 +76,7 @@ returns : tie.Need-returns
 returns c =
     let d = c .before .args .d in
     let f = c .before .fits .d in
-    subst⁻¹ (λ (z : ℤ). Parts d (record { up = natAbs z; down = 0 })) (reads d f) (up-parts d (tested d f true (c .if1 .taken)))
+    subst⁻¹ (λ (z : ℤ). Splits d (record { up = natAbs z; down = 0 })) (reads d f) (up-parts d (tested d f true (c .if1 .taken)))
 
 cast-t4 : tie.Need-cast-t4
 cast-t4 c =
@@ -102,7 +102,7 @@ returns-2 c =
     let d = c .before .args .d in
     let f = c .before .fits .d in
     let h = tested d f false (c .if1 .left) in
-    subst⁻¹ (λ (z : ℤ). Parts d (record { up = 0; down = natAbs z })) (minus d f h) (down-parts d h)
+    subst⁻¹ (λ (z : ℤ). Splits d (record { up = 0; down = natAbs z })) (minus d f h) (down-parts d h)
 
 pub part-spec : {M : Type 1} → statement M
 part-spec = tie.close (tie.spec cast-t3 returns cast-t4 sub-t5 cast-t6 returns-2)

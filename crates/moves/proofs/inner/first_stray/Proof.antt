@@ -1,4 +1,4 @@
--- `moves::inner::first_leaves` meets its contract. The invariant: each leaf passed stays. Assumes nothing.
+-- `moves::inner::first_stray` meets its contract. The invariant: each leaf passed stays. Assumes nothing.
 use mathlib.Core.Path.{_≡_, sym, _∙_}
 use mathlib.Core.Bool.{true}
 use Prim.Native.Nat.{ℕ, _-_, _≤_, _<_}
@@ -6,13 +6,14 @@ use native.Mathlib.Omega.{arith}
 use borrow.Author.Count.{below-more}
 use borrow.Author.Tests.{not-true, not-false}
 use lib.ListN.{length, getD}
+use Rattle.cells.specs.Place.{axes}
 use Rattle.records.proofs.Search.{proper-at}
 use Rattle.moves.specs.Inner.{leafKeeps}
-use Rattle.moves.proofs.inner.first_leaves.Statement.{statement}
-use Rattle.moves.proofs.inner.first_leaves.Tie as tie
+use Rattle.moves.proofs.inner.first_stray.Statement.{statement}
+use Rattle.moves.proofs.inner.first_stray.Tie as tie
 
 abbrev Inv-loop : tie.InvT-loop
-Inv-loop depth list x y z i₀ i = (i ≤ length list) × ((j : ℕ) → j < i → leafKeeps depth x y z (getD list j 0) ≡ true)
+Inv-loop depth list x y z i₀ i = (i ≤ length list) × ((j : ℕ) → j < i → leafKeeps depth (axes x y z) (getD list j 0) ≡ true)
 
 abbrev μ-loop : tie.MeasureT-loop
 μ-loop depth list x y z i₀ i = length list - i
@@ -37,8 +38,8 @@ returns-2 c =
     let u = c .before .loop in
     record { within = u .inv .0; before = u .inv .1; here = λ h. absurd (omega arith) }
 
-pub first-leaves-spec : {M : Type 1} → statement M
-first-leaves-spec =
+pub first-stray-spec : {M : Type 1} → statement M
+first-stray-spec =
     tie.close
     (tie.spec
     Inv-loop
