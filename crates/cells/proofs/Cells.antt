@@ -182,6 +182,18 @@ child D c j e h l =
     let t = child-at D c j (level D c) m (c - 8 ^ level D c) (omega arith) (omega arith) (omega arith) refl (rw n) (rw n) l in
     subst (λ (d : ℕ). Child D c d j) (omega (arith, pow8-suc (level D c))) t
 
+-- a child lies in its parent
+abbrev pub Inside : ℕ → ℕ → ℕ → Type 0
+Inside D c d = (start D d ≤ start D c) × (end D c ≤ end D d)
+
+pub child-inside : (D c d j : ℕ) → Child D c d j → j < 8 → Inside D d c
+child-inside D c d j x h = omega (arith, x .is-start, x .is-span, mul-le-mul-right (span D d) h)
+
+-- a cell of 8 ^ (n + 1) voxels has children
+pub above : (D c n : ℕ) → span D c ≡ 8 ^ suc n → level D c < D
+unfolding span
+above D c n e = omega (arith, pow8-inj (D - level D c) (suc n) e)
+
 -- the other way: a proper code of the form 8 * p + j is a child, unless p is 0
 pub parent : (D p j : ℕ) → j < 8 → 0 < p → proper D (8 * p + j) ≡ true → (proper D p ≡ true) × (level D p < D)
 parent D p j h pos e = go (level D (8 * p + j)) (level-le D (8 * p + j)) (proper-bounds D (8 * p + j) e)
@@ -195,10 +207,6 @@ parent D p j h pos e = go (level D (8 * p + j)) (level-le D (8 * p + j)) (proper
         (rw same at (t .0), omega (arith, rw same at (t .1)))
 
 -- ---- two cells are nested or apart
-
--- the voxels of c are voxels of d
-abbrev pub Inside : ℕ → ℕ → ℕ → Type 0
-Inside D c d = (start D d ≤ start D c) × (end D c ≤ end D d)
 
 -- one ends before the other begins
 abbrev pub Apart : ℕ → ℕ → ℕ → Type 0

@@ -10,10 +10,9 @@ use borrow.Author.Tests.{leb-true, ltb-true, eqb-true}
 use native.Mathlib.Omega.{arith}
 use Rattle.cells.specs.Cell.{level, proper, index, side, start, span}
 use Rattle.cells.specs.Place.{axes, EachAxis, allAxes, along, number, corner}
-use Rattle.cells.specs.Answer.{given, alone, deepest, TooDeep}
+use Rattle.cells.specs.Answer.{alone, deepest, TooDeep}
 use Rattle.cells.specs.Corners.{NoCell, nowhere, CellAt, onGrid, isCorner, NoCorner, PlaceOf, CodeOf}
 use Rattle.cells.proofs.Decisions.{One, one-equal, one-given, one-refuses, one-decided}
-use Rattle.cells.proofs.Power.{pow2-pos}
 use Rattle.cells.proofs.Cells.{proper-bounds, cell-of, level-le}
 use Rattle.cells.proofs.Bools.{both-true}
 use Rattle.cells.proofs.Places.{each-axis, each-true, same-voxel, number-lt, along-number, along-first, along-last}

@@ -1,6 +1,6 @@
 -- Powers of eight and of two, by their laws, at a variable exponent; and which of two numbers is the greater. Assumes nothing.
 use mathlib.Core.Path.{_≡_, refl, sym, ap, _∙_}
-use Prim.Native.Nat.{ℕ, zero, suc, _+_, _-_, _*_, _/_, _^_, _≤_, _<_}
+use Prim.Native.Nat.{ℕ, zero, suc, _-_, _*_, _/_, _^_, _≤_, _<_}
 use native.Mathlib.Nat.{le-of-eq, le-antisymm, lt-of-not-le, le-of-suc-le-suc, zero-lt-suc, one-le-pow, pow-le-pow-right, pow-suc, pow-succ', mul-comm, mul-suc, mul-mul-mul-comm, add-sub-of-le, div-div-eq-div-mul}
 use mathlib.Core.Logic.{_⊎_, inl, inr}
 use native.Mathlib.Decide.{decLe}

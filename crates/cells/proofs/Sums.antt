@@ -9,13 +9,13 @@ use native.Mathlib.Omega.{arith}
 use mathlib.Core.Logic.{_⊎_, inl, inr}
 use borrow.Author.Tests.{eq-eqb, ne-eqb, lt-ltb, le-ltb}
 use lib.Dec.{T, eqb, ltb, eqb→eq, ltb→lt}
-use lib.IntN.{ℤ, pos, negsuc, _+ℤ_}
+use lib.IntN.{ℤ, pos, negsuc}
 use lib.ListN.{getD}
 use Rattle.cells.specs.Labels.{flips, carries}
 use Rattle.cells.specs.AhujaNash.{table2, plus, added, twos, summed}
 use Rattle.cells.specs.Place.{along, Displaced, Came}
 use Rattle.cells.proofs.Integers.{above, below, add-is}
-use Rattle.cells.proofs.Power.{le-or-lt, pow2-suc, pow2-pos, pow8-suc}
+use Rattle.cells.proofs.Power.{le-or-lt, pow2-suc, pow8-suc}
 use Rattle.cells.proofs.Places.{each-axis, along-step, along-lt, same-voxel}
 use Rattle.cells.proofs.Table.{both, both-left, both-right, at}
 

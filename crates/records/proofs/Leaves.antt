@@ -1,16 +1,17 @@
--- The leaves of an ordered list as its members: a black voxel has just one leaf, and a cell whose voxels are all black lies in one leaf. Assumes nothing.
+-- The leaves of an ordered list as its members: a black voxel has just one leaf; lists one after the other. Assumes nothing.
 use mathlib.Core.Path.{_≡_, refl, sym, _∙_}
-use mathlib.Core.Bool.{Bool, true, false, false≢true, or-true}
-use mathlib.Core.Logic.{_⊎_, inl, inr}
-use mathlib.Core.List.{List, [], _∷_, List·Memᴰ, List·Memᴰ·head, List·Memᴰ·tail}
-use Prim.Native.Nat.{ℕ, _+_, _≤_}
+use mathlib.Core.Bool.{Bool, true, false, _||_, false≢true, or-true, or-assoc}
+use mathlib.Core.Logic.{⊎-elim}
+use mathlib.Core.List.{List, [], _∷_, _++_, List·Memᴰ, List·Memᴰ·head, List·Memᴰ·tail}
+use Prim.Native.Nat.{ℕ, _-_, _≤_, _<_}
 use native.Mathlib.Nat.{le-refl}
 use native.Mathlib.Omega.{arith}
 use Rattle.cells.specs.Cell.{proper, start, end, holds}
-use Rattle.records.specs.Record.{black, Ordered, Condensed}
-use Rattle.cells.proofs.Cells.{span-pos, Inside, Apart, nested-or-apart}
-use Rattle.records.proofs.Lists.{AllBlack, holds-true, black-held, black-past, after-cell, condensed-rest}
-use Rattle.records.proofs.Maximal.{first-least, first-greatest}
+use Rattle.records.specs.Record.{black, Ordered}
+use Rattle.cells.proofs.Bools.{clash}
+use Rattle.cells.proofs.Power.{le-or-lt}
+use Rattle.cells.proofs.Cells.{span-pos}
+use Rattle.records.proofs.Lists.{holds-true, held, black-held, black-past}
 
 -- ---- members
 
@@ -48,23 +49,31 @@ one-leaf D from (x ∷ l) c d v (p, f, o) (List·Memᴰ·head a) (List·Memᴰ·
 one-leaf D from (x ∷ l) c d v (p, f, o) (List·Memᴰ·tail m) (List·Memᴰ·head b) h k = absurd (later-apart D x l c v o m (rw b at k) h)
 one-leaf D from (x ∷ l) c d v (p, f, o) (List·Memᴰ·tail m) (List·Memᴰ·tail n) h k = one-leaf D (end D x) l c d v o m n h k
 
--- ---- a cell whose voxels are all black lies in one leaf
+-- ---- lists one after the other
 
-pub inside-leaf : (D from : ℕ) (l : List ℕ) (d : ℕ) → Ordered D from l → Condensed l → proper D d ≡ true → AllBlack D l (start D d) (end D d)
-    → (c : ℕ) × List·Memᴰ c l × Inside D d c
-unfolding Ordered black
-inside-leaf D from [] d o con q b = absurd (false≢true (b (start D d) (le-refl _) (omega (arith, span-pos D d))))
-inside-leaf D from (x ∷ l) d (p, f, o) con q b =
-    go (λ a. inside-leaf D (end D x) l d o (condensed-rest x l con) q (λ v lo hi. sym (black-past D x l v (after-cell D x v (omega arith))) ∙ b v lo hi))
-    (nested-or-apart D x d p q)
-  where
-    first : start D x ≤ start D d
-    first = first-least D from x l (p, f, o) (start D d) (b (start D d) (le-refl _) (omega (arith, span-pos D d)))
+pub black-append : (D : ℕ) (l m : List ℕ) (v : ℕ) → black D (l ++ m) v ≡ (black D l v || black D m v)
+unfolding black
+black-append D [] m v = refl
+black-append D (c ∷ l) m v = rw (black-append D l m v) (sym (or-assoc (holds D c v) (black D l v) (black D m v)))
 
-    go : (end D x ≤ start D d → (c : ℕ) × List·Memᴰ c l × Inside D d c) → Apart D x d ⊎ (Inside D x d ⊎ Inside D d x) → (c : ℕ) × List·Memᴰ c (x ∷ l) × Inside D d c
-    go later (inl (inl h)) = let (c, m, i) = later h in (c, List·Memᴰ·tail m, i)
-    go later (inl (inr h)) = absurd (omega (arith, first, span-pos D d))
-    go later (inr (inl h)) =
-        let same : start D d ≡ start D x = omega (arith, first) in
-        (x, List·Memᴰ·head refl, omega (arith, first-greatest D from d x l q (p, f, o) con same b))
-    go later (inr (inr h)) = (x, List·Memᴰ·head refl, h)
+ordered-earlier : (D a b : ℕ) (l : List ℕ) → a ≤ b → Ordered D b l → Ordered D a l
+unfolding Ordered
+ordered-earlier D a b [] h o = tt
+ordered-earlier D a b (c ∷ l) h (p, f, o) = (p, omega arith, o)
+
+-- the leaves of the first end before those of the second start
+pub ordered-append : (D a b : ℕ) (l m : List ℕ) → Ordered D a l → ((c : ℕ) → List·Memᴰ c l → end D c ≤ b) → a ≤ b → Ordered D b m → Ordered D a (l ++ m)
+unfolding Ordered
+ordered-append D a b [] m o ends h k = ordered-earlier D a b m h k
+ordered-append D a b (x ∷ l) m (p, f, o) ends h k = (p, f, ordered-append D (end D x) b l m o (λ c i. ends c (List·Memᴰ·tail i)) (ends x (List·Memᴰ·head refl)) k)
+
+-- where no voxel from b on is black, the leaves end before it
+pub member-ends : (D b : ℕ) (l : List ℕ) → ((v : ℕ) → b ≤ v → black D l v ≡ false) → (c : ℕ) → List·Memᴰ c l → end D c ≤ b
+member-ends D b l none c m =
+    let u = span-pos D c in
+    ⊎-elim (λ h. h) (λ (h : b < end D c). absurd (clash (member-black D c l (end D c - 1) m (held D c (end D c - 1) (omega arith) (omega arith))) (none (end D c - 1) (omega arith)))) (le-or-lt (end D c) b)
+
+-- one more leaf
+pub ordered-snoc : (D a b : ℕ) (l : List ℕ) (c : ℕ) → Ordered D a l → ((v : ℕ) → b ≤ v → black D l v ≡ false) → proper D c ≡ true → a ≤ start D c → b ≤ start D c → Ordered D a (l ++ (c ∷ []))
+unfolding Ordered
+ordered-snoc D a b l c o none p h g = ordered-append D a (start D c) l (c ∷ []) o (λ x m. omega (arith, member-ends D b l none x m)) h (p, le-refl _, tt)

@@ -1,9 +1,10 @@
 -- The mathematics of lists of leaves, from the bottom up:
 -- which voxels a list holds; a good list's leaves are as big as its voxels allow, so each set of voxels has at most one good list
 pub mod Lists
-pub mod Maximal
 pub mod Leaves
+pub mod Maximal
 -- each set has one, and how many leaves it can have
+pub mod Parents
 pub mod Fill
 pub mod OneList
 pub mod Most

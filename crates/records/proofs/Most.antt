@@ -2,19 +2,18 @@
 use mathlib.Core.Path.{_≡_, refl, sym, ap, _∙_}
 use mathlib.Core.Bool.{Bool, true, false, false≢true}
 use mathlib.Core.Logic.{_⊎_, inl, inr}
-use mathlib.Core.List.{List, [], _∷_, _++_}
+use mathlib.Core.List.{List, [], _∷_, _++_, List·Memᴰ·head}
 use Prim.Native.Nat.{ℕ, zero, suc, _+_, _-_, _*_, _^_, _≤_, _<_, zero-le}
 use native.Mathlib.Nat.{le-refl}
 use native.Mathlib.Omega.{arith}
 use lib.ListN.{length, length-append}
 use Rattle.cells.specs.Answer.{deepest}
-use Rattle.cells.specs.Cell.{end}
-use Rattle.records.specs.Record.{black, Good}
+use Rattle.records.specs.Record.{black, Ordered, Good}
 use Rattle.records.specs.Fault.{allFrom}
 use Rattle.cells.proofs.Power.{le-or-lt, pow8-pos, pow8-suc}
 use Rattle.cells.proofs.Cells.{span-pos}
 use Rattle.records.proofs.Lists.{held, black-held}
-use Rattle.records.proofs.Fill.{upto, leaves, goodList, Between, between-le, all-false, At, at-child, root, Filled, filled, leaves-whole, leaves-none, leaves-parts, good-list-is}
+use Rattle.records.proofs.Fill.{upto, leaves, goodList, all-false, At, at-child, root, Filled, filled, leaves-whole, leaves-none, leaves-parts, good-list-is}
 
 -- the most leaves at depth n
 abbrev pub most : ℕ → ℕ
@@ -44,13 +43,13 @@ upto-shorter f b (suc m) k l e h = go (λ q. upto-shorter f b m k q e (λ j l. h
 
 -- a white voxel has no leaf
 white-none : (D : ℕ) (P : ℕ → Bool) (c s : ℕ) (l : List ℕ) → Filled D P 0 c s l → P s ≡ false → l ≡ []
-unfolding Between
+unfolding Ordered
 white-none D P c s [] t w = refl
 white-none D P c s (x ∷ l) t w =
-    let (p, f, b) = t .between in
-    let e = between-le D (end D x) l _ b in
+    let (p, f, o) = t .over .ordered in
+    let e = t .over .ends x (List·Memᴰ·head refl) in
     let u = span-pos D x in
-    absurd (false≢true (sym w ∙ sym (t .colour s (le-refl s) (omega arith)) ∙ black-held D x l s (held D x s (omega arith) (omega arith))))
+    absurd (false≢true (sym w ∙ sym (t .over .colour s (le-refl s) (omega arith)) ∙ black-held D x l s (held D x s (omega arith) (omega arith))))
 
 few : (D : ℕ) (P : ℕ → Bool) (n c s : ℕ) → At D c n s → length (leaves P n c s) ≤ most n
 few D P zero c s t = go (allFrom P s 1) refl

@@ -1,11 +1,12 @@
 -- INNER: for the contracts of private and inner functions. Definitions only.
-use mathlib.Core.Bool.{Bool, _&&_}
+use mathlib.Core.Path.{_≡_}
+use mathlib.Core.Bool.{Bool, true, false, _&&_}
 use mathlib.Core.List.{List, [], _∷_}
 use Prim.Native.Nat.{ℕ, _+_, _-_, _≤_, _<_}
 use lib.Dec.{ltb}
 use lib.ListN.{length, getD}
 use Rattle.cells.specs.Answer.{deepest}
-use Rattle.cells.specs.Cell.{start, span, end}
+use Rattle.cells.specs.Cell.{start, span, end, holds}
 use Rattle.records.specs.Record.{Ordered}
 
 -- how many voxels the leaves have
@@ -19,6 +20,12 @@ pub record Searchable (D : ℕ) (l : List ℕ) (lo hi : ℕ) : Type 0 where
   pub ordered : Ordered D 0 l
   pub rising : lo ≤ hi
   pub within : hi ≤ length l
+
+-- some voxel of the cell q fails the test P
+pub record White (D : ℕ) (P : ℕ → Bool) (q : ℕ) : Type 0 where
+  pub voxel : ℕ
+  pub inside : holds D q voxel ≡ true
+  pub white : P voxel ≡ false
 
 -- r is the first place from lo up to hi whose leaf starts at v or after it
 pub record Starts (D : ℕ) (l : List ℕ) (v lo hi r : ℕ) : Type 0 where

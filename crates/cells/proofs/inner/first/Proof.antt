@@ -4,7 +4,7 @@ use Prim.Native.Nat.{ℕ, _+_, _*_, _^_}
 use native.Mathlib.Omega.{arith}
 use borrow.Author.Needs.{needs}
 use Rattle.cells.specs.Cell.{start}
-use Rattle.cells.proofs.Cells.{interval, within, span-pos}
+use Rattle.cells.proofs.Cells.{interval, within}
 use Rattle.cells.proofs.Words.{pow8-small}
 use Rattle.cells.proofs.inner.first.Statement.{statement}
 use Rattle.cells.proofs.inner.first.Tie as tie

@@ -6,7 +6,6 @@ use Prim.Native.Nat.{ℕ, _-_, _<_, zero-le}
 use native.Mathlib.Nat.{le-refl}
 use native.Mathlib.Omega.{arith}
 use lib.ListN.{length}
-use borrow.Author.Needs.{needs}
 use Rattle.cells.specs.Answer.{given}
 use Rattle.cells.specs.Cell.{start, end}
 use Rattle.cells.proofs.Cells.{within}
