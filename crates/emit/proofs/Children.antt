@@ -1,5 +1,5 @@
 -- A writer that goes through the eight children of a cell, in label order: the loop over the children. Assumes nothing.
-use mathlib.Core.Path.{_≡_, refl, sym, ap, _∙_, subst}
+use mathlib.Core.Path.{_≡_, refl, sym, ap, _∙_}
 use mathlib.Core.Bool.{Bool}
 use mathlib.Core.List.{List}
 use Prim.Native.Nat.{ℕ, _+_, _*_, _^_, _<_, _≤_}
@@ -9,7 +9,7 @@ use native.Mathlib.Omega.{arith}
 use lib.ListN.{length}
 use Rattle.emit.specs.declared.inner.Runs.{Runs}
 use Rattle.emit.specs.Inner.{Ready, Fed}
-use Rattle.emit.proofs.Runs.{fed-none, fed-then}
+use Rattle.emit.proofs.Runs.{fed-none, fed-to, fed-then}
 
 -- child i, of span w, ends within the cell
 pub child-within : (i w : ℕ) → i < 8 → i * w + w ≤ 8 * w
@@ -30,7 +30,7 @@ module _ {D : ℕ} {P : ℕ → Bool} {from : ℕ} {out₀ : List ℕ} {r₀ : R
     -- one child more, of span u
     pub children-more : {u : ℕ} {out′ : List ℕ} {s : Runs} → i < 8 → w ≡ u → length out′ ≡ length out → Fed D P p (p + u) out r out′ s → Children D P from out₀ r₀ w out′ s (p + w) (i + 1)
     children-more {u} {out′} {s} h e g x = record {
-      fed = fed-then D P (c .fed) (subst (λ (y : ℕ). Fed D P p (p + y) out r out′ s) (sym e) x);
+      fed = fed-then D P (c .fed) (fed-to D P (ap (λ (y : ℕ). p + y) (sym e)) x);
       place = omega (arith, c .place, suc-mul i w, ap (λ (m : ℕ). m * w) (add-one i));
       turns = omega arith;
       size = g ∙ c .size;
@@ -40,5 +40,4 @@ module _ {D : ℕ} {P : ℕ → Bool} {from : ℕ} {out₀ : List ℕ} {r₀ : R
     pub children-all : (u : ℕ) → 8 ≤ i → u ≡ 8 * w → Fed D P from (from + u) out₀ r₀ out r
     children-all u h e =
         let j : i ≡ 8 = omega (arith, c .turns) in
-        let z : p ≡ from + u = omega (arith, c .place, ap (λ (m : ℕ). m * w) j) in
-        subst (λ (y : ℕ). Fed D P from y out₀ r₀ out r) z (c .fed)
+        fed-to D P (omega (arith, c .place, ap (λ (m : ℕ). m * w) j)) (c .fed)

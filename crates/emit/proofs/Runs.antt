@@ -1,5 +1,5 @@
 -- Laws of the emitter: the next cell of the pending run, a white and a black piece, the end; and writers one after the other. Assumes nothing.
-use mathlib.Core.Path.{_≡_, refl, sym, ap, _∙_}
+use mathlib.Core.Path.{_≡_, refl, sym, ap, _∙_, subst}
 use mathlib.Core.List.{List, [], _∷_, _++_, List·Memᴰ, List·Memᴰ·append-cases, List·Memᴰ·eq-of-singleton, List·Memᴰ·not-nil, Memᴰ·cast}
 use mathlib.Core.Bool.{Bool, true, false, _||_, or-false}
 use mathlib.Core.Logic.{_⊎_, inl, inr, ⊎-elim}
@@ -212,6 +212,10 @@ module _ (D : ℕ) (P : ℕ → Bool) where
     ready = record { run = h .run; past = omega (arith, h .past); few = h .few; root = b };
     emits = λ o e. emit-white D P o out from to r white e;
   }
+
+  -- the same end by another name
+  pub fed-to : {from to to′ : ℕ} {out out′ : List ℕ} {r s : Runs} → to ≡ to′ → Fed D P from to out r out′ s → Fed D P from to′ out r out′ s
+  fed-to {from} {to} {to′} {out} {out′} {r} {s} e x = subst (λ (y : ℕ). Fed D P from y out r out′ s) e x
 
   -- one writer after the other
   pub fed-then : {a b c : ℕ} {out₁ out₂ out₃ : List ℕ} {r₁ r₂ r₃ : Runs} → Fed D P a b out₁ r₁ out₂ r₂ → Fed D P b c out₂ r₂ out₃ r₃ → Fed D P a c out₁ r₁ out₃ r₃

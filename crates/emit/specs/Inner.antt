@@ -5,6 +5,7 @@ use mathlib.Core.Bool.{Bool, true, false}
 use Prim.Native.Nat.{ℕ, _+_, _*_, _^_, _<_, _≤_}
 use lib.ListN.{length}
 use lib.Seq.{sets}
+use Rattle.cells.specs.Answer.{deepest}
 use Rattle.cells.specs.Cell.{holds}
 use Rattle.records.specs.Record.{black, Ordered, Good}
 use Rattle.emit.specs.declared.inner.Runs.{Runs}
@@ -30,6 +31,13 @@ pub record Ready (D : ℕ) (r : Runs) (pos : ℕ) : Type 0 where
   pub past : r .to ≤ pos
   pub few : r .at ≤ r .from
   pub root : pos ≤ 8 ^ D
+
+-- the piece [from, to) comes next: the voxels before it are known, and it lies within the root
+pub record Next (D : ℕ) (r : Runs) (from to : ℕ) : Type 0 where
+  pub deep : D ≤ deepest
+  pub ready : Ready D r from
+  pub some : from < to
+  pub root : to ≤ 8 ^ D
 
 -- no pending run at pos, after n codes
 abbrev pub fresh : ℕ → ℕ → Runs

@@ -7,7 +7,7 @@ ghost use mathlib.Core.List.{List};
 ghost use Prim.Native.Nat.{ℕ, _≤_, _<_, _^_};
 ghost use lib.ListN.{set};
 ghost use Rattle.cells.specs.Answer.{deepest};
-ghost use Rattle.emit.specs.Inner.{Fit, Ready, fresh, Emitted, Fed, Result};
+ghost use Rattle.emit.specs.Inner.{Fit, Ready, Next, fresh, Emitted, Fed, Result};
 
 // The pending black run [from, to), and how many codes stand before it.
 pub struct Runs {
@@ -62,7 +62,7 @@ fn flush(depth: u32, r: Runs, pos: u32, out: &mut [u32]) -> usize
 
 // One more piece [from, to), black or white, where all voxels below `from` are known.
 pub fn push(depth: u32, r: Runs, black: bool, from: u32, to: u32, out: &mut [u32]) -> Runs
-    requires { ⌜ (depth ≤ deepest) × Ready depth r from × (from < to) × (to ≤ 8 ^ depth) ⌝ }
+    requires { ⌜ Next depth r from to ⌝ }
     ensures { λ s. ⌜ ((P : ℕ → Bool) → ((v : ℕ) → from ≤ v → v < to → P v ≡ black) →
         Fed depth P from to (now (out .entry)) r (now (out .exit)) s) ⌝ }
 {

@@ -2,10 +2,9 @@
 pub mod Bits
 pub mod Tables
 pub mod Adder
--- slots: the leaves that meet a cell and its children; arrays that a loop fills; tints
+-- slots: the leaves that meet a cell and its children; arrays that a loop fills
 pub mod Parts
 pub mod Arrays
-pub mod Tints
 -- the descent: one source cell copied; target cells and their children
 pub mod Copying
 pub mod Targets

@@ -1,7 +1,7 @@
--- Laws of parts of a list: the leaves that meet a cell, and how they fall to its eight children. Assumes nothing.
+-- Laws of slots: the leaves that meet a cell, and how they fall to its eight children. Assumes nothing.
 use mathlib.Core.Path.{_≡_, refl, sym, ap, _∙_, subst}
 use mathlib.Core.List.{List, [], _∷_}
-use mathlib.Core.Bool.{true, false}
+use mathlib.Core.Bool.{Bool, true, false}
 use mathlib.Core.Logic.{_⊎_, ⊎-elim}
 use Prim.Native.Nat.{ℕ, zero, suc, _+_, _-_, _*_, _/_, _^_, _<_, _≤_}
 use native.Mathlib.Nat.{mul-le-mul-right, lt-of-mul-lt-mul-right, mul-assoc, suc-mul, add-mul, mul-comm}
@@ -18,7 +18,8 @@ use Rattle.records.proofs.Lists.{held, before-cell, after-cell}
 use Rattle.records.proofs.Leaves.{member-black, leaf-of}
 use Rattle.records.proofs.Fault.{member-at, index-of, in-order}
 use Rattle.records.proofs.Search.{proper-at}
-use Rattle.shifts.specs.Slot.{Part, Of, Inside, slotAt}
+use Rattle.shifts.specs.Slot.{Source, Of, OfCell, SlotTint, tintOf, slotAt}
+use Rattle.shifts.specs.declared.inner.slots.Tint.the-variants.{Black, Mixed}
 use Rattle.shifts.specs.declared.inner.slots.Slot.{Slot}
 
 -- ---- aligned intervals: [a * 8 ^ k, .. + 8 ^ k) against the edge b * 8 ^ n, k at most n
@@ -92,94 +93,84 @@ black-none D l v h =
 pub black-at : (D : ℕ) (l : List ℕ) (i v : ℕ) → i < length l → holds D (getD l i 0) v ≡ true → black D l v ≡ true
 black-at D l i v g h = member-black D (getD l i 0) l v (member-at l i g) h
 
--- ---- what a part says of its voxels
+-- ---- what a slot says of its cell's voxels
 
-module _ (D : ℕ) (l : List ℕ) (v e lo hi : ℕ) (x : Part D l v e lo hi) where
-  -- no leaf in the part holds u: white
-  pub part-off : (u : ℕ) → v ≤ u → u < e → ((i : ℕ) → lo ≤ i → i < hi → holds D (getD l i 0) u ≡ false) → black D l u ≡ false
-  part-off u a b h =
+module _ {D n b : ℕ} {l : List ℕ} {s : Slot} (x : Of D l n b s) where
+  -- no leaf of the slot holds u: white
+  pub slot-off : (u : ℕ) → b * 8 ^ n ≤ u → u < b * 8 ^ n + 8 ^ n → ((i : ℕ) → s .lo ≤ i → i < s .hi → holds D (getD l i 0) u ≡ false) → black D l u ≡ false
+  slot-off u v e h =
       black-none D l u
       (λ i g.
       ⊎-elim
-      (λ (p : lo ≤ i).
+      (λ (p : s .lo ≤ i).
       ⊎-elim
-      (λ (q : hi ≤ i). before-cell D (getD l i 0) u (omega (arith, x .after i q g)))
-      (λ (q : i < hi). h i p q)
-      (le-or-lt hi i))
-      (λ (p : i < lo). after-cell D (getD l i 0) u (omega (arith, x .before i p)))
-      (le-or-lt lo i))
-
-  pub part-white : hi ≤ lo → (u : ℕ) → v ≤ u → u < e → black D l u ≡ false
-  part-white h u a b = part-off u a b (λ i p q. absurd (omega arith))
-
-module _ (D : ℕ) (l : List ℕ) (o : Ordered D 0 l) (b n lo hi : ℕ) (x : Part D l (b * 8 ^ n) (b * 8 ^ n + 8 ^ n) lo hi) (some : lo < hi) where
-  abbrev leaf : ℕ
-  leaf = getD l lo 0
-
-  leaf-proper : proper D leaf ≡ true
-  leaf-proper = proper-at D l o lo (omega (arith, x .within))
-
-  met : (start D leaf < b * 8 ^ n + 8 ^ n) × (b * 8 ^ n < start D leaf + span D leaf)
-  met = x .meets lo (omega arith) some
+      (λ (q : s .hi ≤ i). before-cell D (getD l i 0) u (omega (arith, x .after i q g)))
+      (λ (q : i < s .hi). h i p q)
+      (le-or-lt (s .hi) i))
+      (λ (p : i < s .lo). after-cell D (getD l i 0) u (omega (arith, x .before i p)))
+      (le-or-lt (s .lo) i))
 
   -- the first leaf has all of the cell
-  module _ (big : 8 ^ n ≤ span D leaf) where
-    pub covers-from : start D leaf ≤ b * 8 ^ n
-    covers-from = big-from D leaf leaf-proper b n big (met .0)
+  module _ (o : Source D l) (t : SlotTint D l (8 ^ n) s Black) where
+    abbrev leaf : ℕ
+    leaf = getD l (s .lo) 0
 
-    pub covers-to : b * 8 ^ n + 8 ^ n ≤ start D leaf + span D leaf
-    covers-to = big-to D leaf leaf-proper b n big (met .1)
+    leaf-proper : proper D leaf ≡ true
+    leaf-proper = proper-at D l (o .ordered) (s .lo) (omega (arith, t .0, x .within))
 
-    pub part-black : (u : ℕ) → b * 8 ^ n ≤ u → u < b * 8 ^ n + 8 ^ n → black D l u ≡ true
-    part-black u p q = black-at D l lo u (omega (arith, x .within)) (held D leaf u (omega (arith, covers-from)) (omega (arith, covers-to)))
+    covers : (start D leaf ≤ b * 8 ^ n) × (b * 8 ^ n + 8 ^ n ≤ start D leaf + span D leaf)
+    covers =
+        let met = x .meets (s .lo) (omega arith) (t .0) in
+        (big-from D leaf leaf-proper b n (t .1) (met .0), big-to D leaf leaf-proper b n (t .1) (met .1))
 
     -- it is the only one
-    pub covers-alone : (i : ℕ) → lo ≤ i → i < hi → i ≡ lo
-    covers-alone i p q =
+    alone : (i : ℕ) → s .lo ≤ i → i < s .hi → s .lo ≡ i
+    alone i p q =
         ⊎-elim
-        (λ (g : i ≤ lo). omega arith)
-        (λ (g : lo < i). absurd (omega (arith, in-order D 0 l o lo i g (omega (arith, x .within)), covers-to, x .meets i p q)))
-        (le-or-lt i lo)
+        (λ (g : i ≤ s .lo). omega arith)
+        (λ (g : s .lo < i). absurd (omega (arith, in-order D 0 l (o .ordered) (s .lo) i g (omega (arith, x .within)), covers, x .meets i p q)))
+        (le-or-lt i (s .lo))
+
+  -- the tint of one colour: all of the cell has it
+  pub slot-colour : Source D l → (c : Bool) → SlotTint D l (8 ^ n) s (tintOf c) → (u : ℕ) → b * 8 ^ n ≤ u → u < b * 8 ^ n + 8 ^ n → black D l u ≡ c
+  slot-colour o false t u v e = slot-off u v e (λ i p q. absurd (omega arith))
+  slot-colour o true t u v e = black-at D l (s .lo) u (omega (arith, t .0, x .within)) (held D (leaf o t) u (omega (arith, covers o t)) (omega (arith, covers o t)))
+
+-- the slot of cell b, by that number
+abbrev pub at-cell : {D n b : ℕ} {l : List ℕ} {s : Slot} → OfCell D l n s → Of D l n b s → OfCell D l n s
+at-cell {D} {n} {b} x y = record { source = x .source; level = x .level; cell = b; part = y }
 
 -- The first leaf is smaller than the cell: so are all, and they lie within it.
-module _ (D : ℕ) (l : List ℕ) (o : Ordered D 0 l) (b n lo hi : ℕ) (x : Part D l (b * 8 ^ n) (b * 8 ^ n + 8 ^ n) lo hi) (some : lo < hi) (less : span D (getD l lo 0) < 8 ^ n) where
-  fits-proper : (i : ℕ) → i < hi → proper D (getD l i 0) ≡ true
-  fits-proper i h = proper-at D l o i (omega (arith, x .within))
+module _ {D n : ℕ} {l : List ℕ} {s : Slot} (x : OfCell D l n s) (mixed : SlotTint D l (8 ^ n) s Mixed) where
+  pub slot-proper : (i : ℕ) → i < s .hi → proper D (getD l i 0) ≡ true
+  slot-proper i h = proper-at D l (x .source .ordered) i (omega (arith, x .part .within))
 
-  pub part-less : (i : ℕ) → lo ≤ i → i < hi → span D (getD l i 0) < 8 ^ n
-  part-less i p q =
+  pub slot-less : (i : ℕ) → s .lo ≤ i → i < s .hi → span D (getD l i 0) < 8 ^ n
+  slot-less i p q =
       ⊎-elim
       (λ (g : 8 ^ n ≤ span D (getD l i 0)).
       ⊎-elim
-      (λ (s : i ≤ lo). let e : i ≡ lo = omega arith in absurd (omega (arith, ap (λ (j : ℕ). span D (getD l j 0)) e)))
-      (λ (s : lo < i). absurd (omega (arith, in-order D 0 l o lo i s (omega (arith, x .within)), big-from D (getD l i 0) (fits-proper i q) b n g (x .meets i p q .0), x .meets lo (omega arith) some .1)))
-      (le-or-lt i lo))
+      (λ (h : i ≤ s .lo). let e : i ≡ s .lo = omega arith in absurd (omega (arith, mixed .1, ap (λ (j : ℕ). span D (getD l j 0)) e)))
+      (λ (h : s .lo < i). absurd (omega (arith, in-order D 0 l (x .source .ordered) (s .lo) i h (omega (arith, x .part .within)), big-from D (getD l i 0) (slot-proper i q) (x .cell) n g (x .part .meets i p q .0), x .part .meets (s .lo) (omega arith) (mixed .0) .1)))
+      (le-or-lt i (s .lo)))
       (λ (g : span D (getD l i 0) < 8 ^ n). g)
       (le-or-lt (8 ^ n) (span D (getD l i 0)))
 
-  pub part-low : (i : ℕ) → lo ≤ i → i < hi → b * 8 ^ n ≤ start D (getD l i 0)
-  part-low i p q = small-after D (getD l i 0) (fits-proper i q) b n (omega (arith, part-less i p q)) (x .meets i p q .1)
+  pub slot-low : (i : ℕ) → s .lo ≤ i → i < s .hi → x .cell * 8 ^ n ≤ start D (getD l i 0)
+  slot-low i p q = small-after D (getD l i 0) (slot-proper i q) (x .cell) n (omega (arith, slot-less i p q)) (x .part .meets i p q .1)
 
-  pub part-high : (i : ℕ) → lo ≤ i → i < hi → start D (getD l i 0) + span D (getD l i 0) ≤ b * 8 ^ n + 8 ^ n
-  part-high i p q = omega (arith, suc-mul b (8 ^ n), small-before D (getD l i 0) (fits-proper i q) (suc b) n (omega (arith, part-less i p q)) (omega (arith, suc-mul b (8 ^ n), x .meets i p q .0)))
+  pub slot-high : (i : ℕ) → s .lo ≤ i → i < s .hi → start D (getD l i 0) + span D (getD l i 0) ≤ x .cell * 8 ^ n + 8 ^ n
+  slot-high i p q =
+      let e = suc-mul (x .cell) (8 ^ n) in
+      omega (arith, small-before D (getD l i 0) (slot-proper i q) (suc (x .cell)) n (omega (arith, slot-less i p q)) (omega (arith, x .part .meets i p q .0)))
 
   -- where the cell is, as the code finds it
-  pub part-place : start D (getD l lo 0) / 8 ^ n ≡ b
-  part-place =
-      let c = getD l lo 0 in
-      ap (λ (y : ℕ). y / 8 ^ n) (omega (arith, part-low lo (omega arith) some)) ∙ digits-div b {m = 8 ^ n} {r = start D c - b * 8 ^ n} (omega (arith, part-low lo (omega arith) some, x .meets lo (omega arith) some .0))
+  pub slot-cell : start D (getD l (s .lo) 0) / 8 ^ n ≡ x .cell
+  slot-cell =
+      let low = slot-low (s .lo) (omega arith) (mixed .0) in
+      ap (λ (y : ℕ). y / 8 ^ n) (omega arith) ∙ digits-div (x .cell) {m = 8 ^ n} {r = start D (getD l (s .lo) 0) - x .cell * 8 ^ n} (omega (arith, x .part .meets (s .lo) (omega arith) (mixed .0) .0))
 
--- smaller than a cell, they are no bigger than its children
-pub part-small : (D : ℕ) (l : List ℕ) (o : Ordered D 0 l) (b n lo hi : ℕ) → Part D l (b * 8 ^ suc n) (b * 8 ^ suc n + 8 ^ suc n) lo hi → lo < hi → span D (getD l lo 0) < 8 ^ suc n → (i : ℕ) → lo ≤ i → i < hi → span D (getD l i 0) ≤ 8 ^ n
-part-small D l o b n lo hi x some less i p q =
-    smaller D (getD l i 0) (proper-at D l o i (omega (arith, x .within))) n (part-less D l o b (suc n) lo hi x some less i p q)
-
--- the slot as the leaves within its cell
-pub slot-inside : (D : ℕ) (l : List ℕ) (o : Ordered D 0 l) (b n : ℕ) (s : Slot) → Of D l n b s → s .lo < s .hi → span D (getD l (s .lo) 0) < 8 ^ n → Inside D l (b * 8 ^ n) (8 ^ n) s
-slot-inside D l o b n s x some less =
-    record { part = x; low = part-low D l o b n (s .lo) (s .hi) x some less; high = part-high D l o b n (s .lo) (s .hi) x some less }
-
--- ---- the parts of a part: one for each child
+-- ---- the parts of a slot: one for each child
 
 -- where child m of cell b starts
 pub edge : (b m n : ℕ) → (8 * b + m) * 8 ^ n ≡ b * 8 ^ suc n + m * 8 ^ n
@@ -193,28 +184,22 @@ inside m n h = omega (arith, mul-le-mul-right (8 ^ n) h, suc-mul m (8 ^ n), pow8
 pub edge-next : (b m n : ℕ) → (8 * b + suc m) * 8 ^ n ≡ (8 * b + m) * 8 ^ n + 8 ^ n
 edge-next b m n = omega (arith, edge b m n, edge b (suc m) n, suc-mul m (8 ^ n))
 
-module _ (D : ℕ) (l : List ℕ) (b n lo hi : ℕ) (x : Part D l (b * 8 ^ suc n) (b * 8 ^ suc n + 8 ^ suc n) lo hi) (m : ℕ) (m<8 : m < 8) where
-  -- a part without a leaf, or with one leaf that has all of the cell, is also each child's
-  whole : ((i : ℕ) → lo ≤ i → i < hi → (start D (getD l i 0) ≤ b * 8 ^ suc n) × (b * 8 ^ suc n + 8 ^ suc n ≤ start D (getD l i 0) + span D (getD l i 0))) → Part D l ((8 * b + m) * 8 ^ n) ((8 * b + m) * 8 ^ n + 8 ^ n) lo hi
-  whole h =
-      record {
-        order = x .order;
-        within = x .within;
-        before = λ i p. omega (arith, x .before i p, edge b m n);
-        after = λ i p q. omega (arith, x .after i p q, edge b m n, inside m n m<8);
-        meets = λ i p q. (omega (arith, h i p q, edge b m n, pow8-pos n), omega (arith, h i p q, edge b m n, inside m n m<8, pow8-pos n));
-      }
+-- a slot without a leaf, or with one leaf that has all of the cell, is also each child's
+module _ {D n b : ℕ} {l : List ℕ} {s : Slot} (x : Of D l (suc n) b s) (m : ℕ) (m<8 : m < 8) where
+  whole : ((i : ℕ) → s .lo ≤ i → i < s .hi → (start D (getD l i 0) ≤ b * 8 ^ suc n) × (b * 8 ^ suc n + 8 ^ suc n ≤ start D (getD l i 0) + span D (getD l i 0))) → Of D l n (8 * b + m) s
+  whole h = record {
+    order = x .order;
+    within = x .within;
+    before = λ i p. omega (arith, x .before i p, edge b m n);
+    after = λ i p q. omega (arith, x .after i p q, edge b m n, inside m n m<8);
+    meets = λ i p q. (omega (arith, h i p q, edge b m n, pow8-pos n), omega (arith, h i p q, edge b m n, inside m n m<8, pow8-pos n));
+  }
 
-  pub whole-white : hi ≤ lo → Part D l ((8 * b + m) * 8 ^ n) ((8 * b + m) * 8 ^ n + 8 ^ n) lo hi
-  whole-white h = whole (λ i p q. absurd (omega arith))
-
-  pub whole-black : Ordered D 0 l → lo < hi → 8 ^ suc n ≤ span D (getD l lo 0) → Part D l ((8 * b + m) * 8 ^ n) ((8 * b + m) * 8 ^ n + 8 ^ n) lo hi
-  whole-black o some big =
+  pub slot-whole : Source D l → (c : Bool) → SlotTint D l (8 ^ suc n) s (tintOf c) → Of D l n (8 * b + m) s
+  slot-whole o false t = whole (λ i p q. absurd (omega arith))
+  slot-whole o true t =
       whole
-      (λ i p q.
-      let e : lo ≡ i = sym (covers-alone D l o b (suc n) lo hi x some big i p q) in
-      subst (λ (j : ℕ). (start D (getD l j 0) ≤ b * 8 ^ suc n) × (b * 8 ^ suc n + 8 ^ suc n ≤ start D (getD l j 0) + span D (getD l j 0))) e
-      (covers-from D l o b (suc n) lo hi x some big, covers-to D l o b (suc n) lo hi x some big))
+      (λ i p q. subst (λ (j : ℕ). (start D (getD l j 0) ≤ b * 8 ^ suc n) × (b * 8 ^ suc n + 8 ^ suc n ≤ start D (getD l j 0) + span D (getD l j 0))) (alone x o t i p q) (covers x o t))
 
 -- the cut before child m: the leaves of the part that start before it are those before place i
 pub record Cut (D : ℕ) (l : List ℕ) (b n lo hi m i : ℕ) : Type 0 where
@@ -223,63 +208,60 @@ pub record Cut (D : ℕ) (l : List ℕ) (b n lo hi m i : ℕ) : Type 0 where
   pub below : (j : ℕ) → lo ≤ j → j < i → start D (getD l j 0) < (8 * b + m) * 8 ^ n
   pub above : (j : ℕ) → i ≤ j → j < hi → (8 * b + m) * 8 ^ n ≤ start D (getD l j 0)
 
-module _ (D : ℕ) (l : List ℕ) (o : Ordered D 0 l) (b n lo hi : ℕ) (x : Part D l (b * 8 ^ suc n) (b * 8 ^ suc n + 8 ^ suc n) lo hi) (small : (i : ℕ) → lo ≤ i → i < hi → span D (getD l i 0) ≤ 8 ^ n) where
-  is-proper : (i : ℕ) → i < hi → proper D (getD l i 0) ≡ true
-  is-proper i h = proper-at D l o i (omega (arith, x .within))
+module _ {D n : ℕ} {l : List ℕ} {s : Slot} (x : OfCell D l (suc n) s) (mixed : SlotTint D l (8 ^ suc n) s Mixed) where
+  abbrev b : ℕ
+  b = x .cell
 
-  pub cut-none : Cut D l b n lo hi 0 lo
-  cut-none =
-      record {
-        low = omega arith;
-        high = x .order;
-        below = λ j p q. absurd (omega arith);
-        above = λ j p q. omega (arith, edge b 0 n, small-after D (getD l j 0) (is-proper j q) b (suc n) (omega (arith, small j p q, pow8-suc n)) (x .meets j p q .1));
-      }
+  -- smaller than a cell, they are no bigger than its children
+  small : (i : ℕ) → s .lo ≤ i → i < s .hi → span D (getD l i 0) ≤ 8 ^ n
+  small i p q = smaller D (getD l i 0) (slot-proper x mixed i q) n (slot-less x mixed i p q)
 
-  module _ (m i e : ℕ) (k : Cut D l b n lo hi m i) (s : Starts D l ((8 * b + suc m) * 8 ^ n) i hi e) where
-    pub cut-next : Cut D l b n lo hi (suc m) e
-    cut-next =
-        record {
-          low = omega (arith, k .low, s .low);
-          high = s .high;
-          below = λ j p q.
-              ⊎-elim
-              (λ (g : i ≤ j). s .below j g q)
-              (λ (g : j < i). omega (arith, k .below j p g, edge-next b m n))
-              (le-or-lt i j);
-          above = s .above;
-        }
+  pub cut-none : Cut D l b n (s .lo) (s .hi) 0 (s .lo)
+  cut-none = record {
+    low = omega arith;
+    high = x .part .order;
+    below = λ j p q. absurd (omega arith);
+    above = λ j p q. omega (arith, edge b 0 n, slot-low x mixed j p q);
+  }
 
-    pub cut-part : m < 8 → Part D l ((8 * b + m) * 8 ^ n) ((8 * b + m) * 8 ^ n + 8 ^ n) i e
-    cut-part h =
-        record {
-          order = s .low;
-          within = omega (arith, s .high, x .within);
-          before = λ j p.
-              ⊎-elim
-              (λ (g : lo ≤ j). small-before D (getD l j 0) (is-proper j (omega (arith, k .high))) (8 * b + m) n (small j g (omega (arith, k .high))) (k .below j g p))
-              (λ (g : j < lo). omega (arith, x .before j g, edge b m n))
-              (le-or-lt lo j);
-          after = λ j p q.
-              ⊎-elim
-              (λ (g : hi ≤ j). omega (arith, x .after j g q, edge b m n, inside m n h))
-              (λ (g : j < hi). omega (arith, s .above j p g, edge-next b m n))
-              (le-or-lt hi j);
-          meets = λ j p q. (
-            omega (arith, s .below j p q, edge-next b m n),
-            omega (arith, k .above j p (omega (arith, s .high)), span-pos D (getD l j 0)),
-          );
-        }
+  module _ {m i e : ℕ} (k : Cut D l b n (s .lo) (s .hi) m i) (f : Starts D l ((8 * b + suc m) * 8 ^ n) i (s .hi) e) where
+    pub cut-next : Cut D l b n (s .lo) (s .hi) (suc m) e
+    cut-next = record {
+      low = omega (arith, k .low, f .low);
+      high = f .high;
+      below = λ j p q. ⊎-elim (λ (g : i ≤ j). f .below j g q) (λ (g : j < i). omega (arith, k .below j p g, edge-next b m n)) (le-or-lt i j);
+      above = f .above;
+    }
+
+    pub cut-part : m < 8 → Of D l n (8 * b + m) (record { lo = i; hi = e })
+    cut-part h = record {
+      order = f .low;
+      within = omega (arith, f .high, x .part .within);
+      before = λ j p.
+          ⊎-elim
+          (λ (g : s .lo ≤ j). let in-slot : j < s .hi = omega (arith, k .high) in small-before D (getD l j 0) (slot-proper x mixed j in-slot) (8 * b + m) n (small j g in-slot) (k .below j g p))
+          (λ (g : j < s .lo). omega (arith, x .part .before j g, edge b m n))
+          (le-or-lt (s .lo) j);
+      after = λ j p q.
+          ⊎-elim
+          (λ (g : s .hi ≤ j). omega (arith, x .part .after j g q, edge b m n, inside m n h))
+          (λ (g : j < s .hi). omega (arith, f .above j p g, edge-next b m n))
+          (le-or-lt (s .hi) j);
+      meets = λ j p q. (omega (arith, f .below j p q, edge-next b m n), omega (arith, k .above j p (omega (arith, f .high)), span-pos D (getD l j 0)));
+    }
 
 -- ---- a slot that is repeated
 
-pub eight : (s : Slot) (m : ℕ) → m < 8 → slotAt (s ∷ s ∷ s ∷ s ∷ s ∷ s ∷ s ∷ s ∷ []) m ≡ s
-eight s zero h = refl
-eight s (suc zero) h = refl
-eight s (suc (suc zero)) h = refl
-eight s (suc (suc (suc zero))) h = refl
-eight s (suc (suc (suc (suc zero)))) h = refl
-eight s (suc (suc (suc (suc (suc zero))))) h = refl
-eight s (suc (suc (suc (suc (suc (suc zero)))))) h = refl
-eight s (suc (suc (suc (suc (suc (suc (suc zero))))))) h = refl
-eight s (suc (suc (suc (suc (suc (suc (suc (suc m)))))))) h = absurd (omega arith)
+abbrev pub eightOf : Slot → List Slot
+eightOf s = s ∷ s ∷ s ∷ s ∷ s ∷ s ∷ s ∷ s ∷ []
+
+pub each-of-eight : (s : Slot) (m : ℕ) → m < 8 → slotAt (eightOf s) m ≡ s
+each-of-eight s zero h = refl
+each-of-eight s (suc zero) h = refl
+each-of-eight s (suc (suc zero)) h = refl
+each-of-eight s (suc (suc (suc zero))) h = refl
+each-of-eight s (suc (suc (suc (suc zero)))) h = refl
+each-of-eight s (suc (suc (suc (suc (suc zero))))) h = refl
+each-of-eight s (suc (suc (suc (suc (suc (suc zero)))))) h = refl
+each-of-eight s (suc (suc (suc (suc (suc (suc (suc zero))))))) h = refl
+each-of-eight s (suc (suc (suc (suc (suc (suc (suc (suc m)))))))) h = absurd (omega arith)

@@ -1,137 +1,150 @@
 -- What the slots of a target cell say of its voxels, and how its children's slots come from it. Assumes nothing.
 use mathlib.Core.Path.{_≡_, sym, ap, _∙_, subst}
-use mathlib.Core.List.{List, [], _∷_}
-use mathlib.Core.Bool.{true, false}
+use mathlib.Core.List.{List}
+use mathlib.Core.Bool.{Bool}
 use Prim.Native.Nat.{ℕ, suc, _+_, _-_, _*_, _/_, _%_, _^_, _<_, _≤_}
 use native.Mathlib.Nat.{div-add-mod', mod-lt, zero-mul}
 use native.Mathlib.Omega.{arith}
 use lib.Arith.{digits-div}
 use lib.ListN.{length, getD}
-use Rattle.cells.proofs.Power.{pow8-pos}
+use Rattle.cells.proofs.Power.{pow8-pos, pow8-suc}
 use Rattle.cells.proofs.Cells.{within, span-pos}
-use Rattle.records.specs.Record.{black, Ordered}
+use Rattle.records.specs.Record.{black}
 use Rattle.records.proofs.Search.{proper-at}
+use Rattle.emit.specs.Inner.{Ready, fresh}
+use Rattle.emit.specs.declared.inner.Runs.{Runs}
+use Rattle.emit.proofs.Children.{child-within}
 use Rattle.shifts.specs.Labels.{sumLabel, carryLabel, Uses}
 use Rattle.shifts.specs.Shift.{shift, carry, cellOf, need, shifted}
-use Rattle.shifts.specs.Slot.{Part, Of, Slots, Divided, SlotsTint, Target, Parents, Copies, slotAt, partAt}
+use Rattle.shifts.specs.Slot.{Source, Of, OfCell, SlotTint, tintOf, slotAt}
+use Rattle.shifts.specs.Descent.{Slots, OfCells, Divided, SlotsTint, Copying, Copies, Aimed, Divides, partAt}
+use Rattle.shifts.specs.declared.inner.descent.Target.{Target}
 use Rattle.shifts.specs.declared.inner.slots.Slot.{Slot}
-use Rattle.shifts.specs.declared.inner.slots.Tint.the-variants.{White, Black}
-use Rattle.shifts.proofs.Bits.{sum-lt, carry-lt, uses-carry}
-use Rattle.shifts.proofs.Adder.{shifted-in, source-cell, need-carries, carries-lt, carry-none, child-cell, root-cell, low-labels, need-none}
-use Rattle.shifts.proofs.Parts.{part-white, part-black, edge, eight}
+use Rattle.shifts.specs.declared.inner.slots.Tint.{Tint}
+use Rattle.shifts.proofs.Bits.{sum-lt, carry-lt, uses-none, uses-carry}
+use Rattle.shifts.proofs.Adder.{shifted-in, source-cell, need-carries, needs-level, carries-lt, carry-none, child-cell, root-cell, low-labels, need-none}
+use Rattle.shifts.proofs.Parts.{slot-colour, edge, eightOf, each-of-eight}
 
--- ---- a target cell, [from, from + 8 ^ k)
+-- ---- a target cell
 
--- the voxels of the cell of number b
-from-cell : (u n b : ℕ) → u / 8 ^ n ≡ b → (b * 8 ^ n ≤ u) × (u < b * 8 ^ n + 8 ^ n)
-from-cell u n b e =
-    let h = div-add-mod' u (8 ^ n) in
-    let g = mod-lt u (pow8-pos n) in
-    let p : u / 8 ^ n * 8 ^ n ≡ b * 8 ^ n = ap (λ (x : ℕ). x * 8 ^ n) e in
-    (omega arith, omega arith)
+module _ {D w : ℕ} {l : List ℕ} {c : Target} {t : List Slot} {r : Runs} (x : Aimed D l w c t r) where
+  abbrev source : ℕ → ℕ
+  source q = cellOf D w (c .k) (x .cell) q
 
-module _ {D w k from : ℕ} {l : List ℕ} {t : List Slot} (o : Ordered D 0 l) (deep : k ≤ D) (root : from + 8 ^ k ≤ 8 ^ D) (x : Target D l w k from t) where
-  abbrev cell : ℕ → ℕ
-  cell q = cellOf D w k (x .cell) q
-
-  module _ (v : ℕ) (lo : from ≤ v) (hi : v < from + 8 ^ k) where
-    in-target : v / 8 ^ k ≡ x .cell
-    in-target = ap (λ (y : ℕ). y / 8 ^ k) (omega (arith, x .place)) ∙ digits-div (x .cell) {m = 8 ^ k} {r = v - from} (omega arith)
+  module _ (v : ℕ) (lo : c .from ≤ v) (hi : v < c .from + 8 ^ c .k) where
+    in-target : v / 8 ^ c .k ≡ x .cell
+    in-target = ap (λ (y : ℕ). y / 8 ^ c .k) (omega (arith, x .place)) ∙ digits-div (x .cell) {m = 8 ^ c .k} {r = v - c .from} (omega arith)
 
     -- the slot that the source lies in
     abbrev slot : ℕ
-    slot = carry k w v
+    slot = carry (c .k) w v
 
-    source : shift D w 0 v / 8 ^ k ≡ cell slot
-    source = source-cell D w k v deep ∙ ap (λ (d : ℕ). cellOf D w k d slot) in-target
+    in-source : shift D w 0 v / 8 ^ c .k ≡ source slot
+    in-source = source-cell D w (c .k) v (x .level) ∙ ap (λ (d : ℕ). cellOf D w (c .k) d slot) in-target
 
     colour : shifted D l w v ≡ black D l (shift D w 0 v)
-    colour = shifted-in D l w v (omega arith)
+    colour = shifted-in D l w v (omega (arith, x .root))
 
-    white-voxel : SlotsTint D l (8 ^ k) (need k w) t 8 White → shifted D l w v ≡ false
-    white-voxel tint =
-        let u = need-carries k w v in
-        let b = from-cell (shift D w 0 v) k (cell slot) source in
-        colour
-        ∙ part-white D l (cell slot * 8 ^ k) (cell slot * 8 ^ k + 8 ^ k) (slotAt t slot .lo) (slotAt t slot .hi) (x .slots slot (carries-lt k w v) u)
-        (tint slot (carries-lt k w v) u) (shift D w 0 v) (b .0) (b .1)
+  -- each slot needed is that of its source cell
+  pub aimed-slots : OfCells D l (c .k) (c .axes) t
+  aimed-slots q h u = record { source = x .source; level = x .level; cell = source q; part = x .slots q h u }
 
-    black-voxel : SlotsTint D l (8 ^ k) (need k w) t 8 Black → shifted D l w v ≡ true
-    black-voxel tint =
-        let u = need-carries k w v in
-        let b = from-cell (shift D w 0 v) k (cell slot) source in
-        let z = tint slot (carries-lt k w v) u in
-        colour ∙ part-black D l o (cell slot) k (slotAt t slot .lo) (slotAt t slot .hi) (x .slots slot (carries-lt k w v) u) (z .0) (z .1) (shift D w 0 v) (b .0) (b .1)
+  -- one colour: y is the span as the code has it
+  pub aimed-colour : (y : ℕ) → y ≡ 8 ^ c .k → {tint : Tint} → SlotsTint D l y (c .axes) t tint → (b : Bool) → tint ≡ tintOf b → (v : ℕ) → c .from ≤ v → v < c .from + 8 ^ c .k → shifted D l w v ≡ b
+  aimed-colour y wide all b e v lo hi =
+      let q = slot v lo hi in
+      let lt = carries-lt (c .k) w v in
+      let u : Uses (c .axes) q = rw (x .axes) (need-carries (c .k) w v) in
+      let s = shift D w 0 v in
+      let h = div-add-mod' s (8 ^ c .k) in
+      let g = mod-lt s (pow8-pos (c .k)) in
+      let p : s / 8 ^ c .k * 8 ^ c .k ≡ source q * 8 ^ c .k = ap (λ (n : ℕ). n * 8 ^ c .k) (in-source v lo hi) in
+      colour v lo hi ∙ slot-colour (x .slots q lt u) (x .source) b (rw (← wide, ← e) (all b e q lt u)) s (omega arith) (omega arith)
 
   -- one source cell, copied as it is
-  pub cell-copies : need k w ≡ 0 → Copies D l (cell 0 * 8 ^ k) from (8 ^ k) (shifted D l w)
-  cell-copies z v lo hi =
+  pub aimed-copying : Copying D l c (slotAt t 0) r
+  aimed-copying = record { held = aimed-slots 0 (omega arith) (uses-none (c .axes)); root = x .root; ready = x .ready }
+
+  pub aimed-copies : c .axes ≡ 0 → Copies D l (source 0) c (shifted D l w)
+  aimed-copies none v lo hi =
+      let z = sym (x .axes) ∙ none in
       let u = shift D w 0 v in
-      let s : u / 8 ^ k ≡ cell 0 = source v lo hi ∙ ap cell (carry-none k w v z) in
-      let r : u % 8 ^ k ≡ v - from =
-      low-labels k D w v deep (need-none k w z) ∙ omega (arith, div-add-mod' v (8 ^ k), ap (λ (y : ℕ). y * 8 ^ k) (in-target v lo hi), x .place)
+      let s : u / 8 ^ c .k ≡ source 0 = in-source v lo hi ∙ ap source (carry-none (c .k) w v z) in
+      let r : u % 8 ^ c .k ≡ v - c .from =
+      low-labels (c .k) D w v (x .level) (need-none (c .k) w z) ∙ omega (arith, div-add-mod' v (8 ^ c .k), ap (λ (y : ℕ). y * 8 ^ c .k) (in-target v lo hi), x .place)
       in
-      colour v lo hi ∙ ap (black D l) (omega (arith, div-add-mod' u (8 ^ k), ap (λ (y : ℕ). y * 8 ^ k) s, r))
+      colour v lo hi ∙ ap (black D l) (omega (arith, div-add-mod' u (8 ^ c .k), ap (λ (y : ℕ). y * 8 ^ c .k) s, r))
 
-  -- the same with the numbers that the code has: the span y, and the needed axes f
-  module _ (y f : ℕ) (wide : y ≡ 8 ^ k) (axes : f ≡ need k w) where
-    pub cell-white : SlotsTint D l y f t 8 White → (v : ℕ) → from ≤ v → v < from + y → shifted D l w v ≡ false
-    cell-white tint v lo hi = white-voxel v lo (omega arith) (rw axes at tint)
+  -- ---- its children
 
-    pub cell-black : SlotsTint D l y f t 8 Black → (v : ℕ) → from ≤ v → v < from + y → shifted D l w v ≡ true
-    cell-black tint v lo hi = black-voxel v lo (omega arith) (rw (wide, axes) at tint)
+  -- a cell of which not all comes from one source cell has children
+  pub aimed-parent : (c .axes ≡ 0 → ⊥) → 1 ≤ c .k
+  aimed-parent some = needs-level (c .k) w (λ z. some (x .axes ∙ z))
 
-    -- every needed slot's part is within the list
-    pub slots-within : (q : ℕ) → q < 8 → Uses f q → slotAt t q .hi ≤ length l
-    slots-within q h u = x .slots q h (rw axes at u) .within
+  -- with j levels below each, f the axes there
+  module _ (j : ℕ) (level : suc j ≡ c .k) where
+    pub aimed-above : OfCells D l (suc j) (c .axes) t
+    aimed-above = rw level aimed-slots
 
--- ---- its children
-
--- the slots of a cell with children, j levels below each, with the axes f that the code has
-module _ {D w k from : ℕ} {l : List ℕ} {t : List Slot} (j f : ℕ) (level : suc j ≡ k) (axes : f ≡ need k w) (x : Target D l w k from t) where
-  pub slots-above : Slots D l (suc j) f (cellOf D w k (x .cell)) t
-  slots-above = rw (level, axes) (x .slots)
-
-  -- their parts
-  pub parents-of : (p : List (List Slot)) → ((S : ℕ → ℕ) → Slots D l (suc j) f S t → Divided D l j f S p) → Parents D l w j from p
-  parents-of p d =
-      let parts : Divided D l j f (cellOf D w k (x .cell)) p = d (cellOf D w k (x .cell)) slots-above in
-      record { cell = x .cell; place = rw level (x .place); parts = rw (level, ← axes) parts }
+    pub aimed-divides : (f : ℕ) → f ≡ need j w → (p : List (List Slot)) → ((S : ℕ → ℕ) → Slots D l (suc j) (c .axes) S t → Divided D l j (c .axes) S p) → Divides D l w (record { from = c .from; k = j; axes = f }) p r
+    aimed-divides f e p d =
+        let parts : Divided D l j (c .axes) (cellOf D w (suc j) (x .cell)) p = d (cellOf D w (suc j) (x .cell)) (rw level (x .slots)) in
+        record {
+          source = x .source;
+          level = omega (arith, x .level);
+          root = rw level (x .root);
+          axes = e;
+          cell = x .cell;
+          place = rw level (x .place);
+          parts = rw (level, ← x .axes) (rw level at parts);
+          ready = x .ready;
+        }
 
 -- the slots of child m, picked from the parts of its parent's, h the shift's label as the code has it
-pub child-target : {D w k from : ℕ} {l : List ℕ} {p : List (List Slot)} {t : List Slot} (h m v : ℕ) → h ≡ w / 8 ^ k % 8 → k < D → m < 8 → v ≡ from + m * 8 ^ k → Parents D l w k from p
-    → ((q : ℕ) → q < 8 → slotAt t q ≡ partAt p (carryLabel h m q) (sumLabel h m q)) → Target D l w k v t
+pub child-aimed : {D w : ℕ} {l : List ℕ} {c : Target} {p : List (List Slot)} {r s : Runs} {t : List Slot} (x : Divides D l w c p r) (h m v : ℕ) → h ≡ w / 8 ^ c .k % 8 → m < 8 → v ≡ c .from + m * 8 ^ c .k
+    → ((q : ℕ) → q < 8 → slotAt t q ≡ partAt p (carryLabel h m q) (sumLabel h m q)) → Ready D s v → Aimed D l w (record { from = v; k = c .k; axes = c .axes }) t s
 unfolding need
-child-target {D} {w} {k} {from} {l} {p} {t} h m v eh deep child place x pick = record {
+child-aimed {D} {w} {l} {c} {p} {r} {s} {t} x h m v eh child place pick ready = record {
+  source = x .source;
+  level = omega (arith, x .level);
+  root = omega (arith, child-within m (8 ^ c .k) child, pow8-suc (c .k), x .root);
+  axes = x .axes;
   cell = 8 * x .cell + m;
-  place = omega (arith, edge (x .cell) m k, x .place);
+  place = omega (arith, edge (x .cell) m (c .k), x .place);
   slots = slots;
+  ready = ready;
 }
   where
-    slots : Slots D l k (need k w) (cellOf D w k (8 * x .cell + m)) t
+    slots : Slots D l (c .k) (c .axes) (cellOf D w (c .k) (8 * x .cell + m)) t
     slots q g u =
-        let c = carryLabel h m q in
-        let s = sumLabel h m q in
-        let part : Of D l k (8 * cellOf D w (suc k) (x .cell) c + s) (partAt p c s) = x .parts c s (carry-lt h m q) (rw (← eh) (uses-carry (need k w) h m q u)) (sum-lt h m q) in
-        let same : cellOf D w k (8 * x .cell + m) q ≡ 8 * cellOf D w (suc k) (x .cell) c + s = rw eh (child-cell D w k (x .cell) m q deep child) in
+        let k = c .k in
+        let a = carryLabel h m q in
+        let b = sumLabel h m q in
+        let part : Of D l k (8 * cellOf D w (suc k) (x .cell) a + b) (partAt p a b) = x .parts a b (carry-lt h m q) (rw (← eh) (uses-carry (need k w) h m q (rw (x .axes) at u))) (sum-lt h m q) in
+        let same : cellOf D w k (8 * x .cell + m) q ≡ 8 * cellOf D w (suc k) (x .cell) a + b = rw eh (child-cell D w k (x .cell) m q (x .level) child) in
         rw (same, pick q g) part
 
 -- ---- the root: each slot is the whole list
 
-whole-list : (D : ℕ) (l : List ℕ) → Ordered D 0 l → Part D l (0 * 8 ^ D) (0 * 8 ^ D + 8 ^ D) 0 (length l)
-whole-list D l o =
+whole-list : {D : ℕ} {l : List ℕ} → Source D l → Of D l D 0 (record { lo = 0; hi = length l })
+whole-list {D} {l} o =
     let z = zero-mul (8 ^ D) in
     record {
       order = omega arith;
       within = omega arith;
       before = λ i h. absurd (omega arith);
       after = λ i h g. absurd (omega arith);
-      meets = λ i h g. (omega (arith, within D (getD l i 0) (proper-at D l o i g), span-pos D (getD l i 0)), omega (arith, span-pos D (getD l i 0)));
+      meets = λ i h g. (omega (arith, within D (getD l i 0) (proper-at D l (o .ordered) i g), span-pos D (getD l i 0)), omega (arith, span-pos D (getD l i 0)));
     }
 
-pub root-target : (D : ℕ) (l : List ℕ) (o : Ordered D 0 l) (w : ℕ) (s : Slot) → s .lo ≡ 0 → s .hi ≡ length l → Target D l w D 0 (s ∷ s ∷ s ∷ s ∷ s ∷ s ∷ s ∷ s ∷ [])
-root-target D l o w s a b = record {
+pub root-aimed : {D f w : ℕ} {l : List ℕ} → Source D l → f ≡ need D w → Aimed D l w (record { from = 0; k = D; axes = f }) (eightOf (record { lo = 0; hi = length l })) (fresh 0 0)
+root-aimed {D} {f} {w} {l} o e = record {
+  source = o;
+  level = omega arith;
+  root = omega arith;
+  axes = e;
   cell = 0;
   place = sym (zero-mul (8 ^ D));
-  slots = λ q h u. subst (Of D l D (cellOf D w D 0 q)) (sym (eight s q h)) (rw (root-cell D w q, a, b) (whole-list D l o));
+  slots = λ q h u. subst (Of D l D (cellOf D w D 0 q)) (sym (each-of-eight _ q h)) (rw (root-cell D w q) (whole-list o));
+  ready = record { run = omega arith; past = omega arith; few = omega arith; root = omega arith };
 }

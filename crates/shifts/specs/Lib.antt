@@ -2,3 +2,4 @@
 pub mod Labels
 pub mod Shift
 pub mod Slot
+pub mod Descent

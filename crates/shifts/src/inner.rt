@@ -4,3 +4,4 @@
 pub mod descent;
 pub mod labels;
 pub mod slots;
+pub mod sources;

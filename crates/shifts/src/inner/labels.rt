@@ -3,6 +3,7 @@ ghost use mathlib.Core.Path.{_≡_};
 ghost use mathlib.Core.Bool.{true, false};
 ghost use Prim.Native.Nat.{_<_};
 ghost use Rattle.shifts.specs.Labels.{sumLabel, carryLabel, joinLabel, Uses};
+ghost use Rattle.shifts.specs.Shift.{need};
 
 // The label of the sum of three labels.
 pub fn sum_label(h: u32, m: u32, q: u32) -> u32
@@ -34,4 +35,19 @@ pub fn within(f: u32, q: u32) -> bool
     ensures { λ r. ⌜ (r ≡ true → Uses f q) × (r ≡ false → Uses f q → ⊥) ⌝ }
 {
     (f | q) == f
+}
+
+// The axes on which the last k labels of w are not all 0.
+pub fn axes(w: u32, k: u32) -> u32
+    ensures { λ r. ⌜ r ≡ need k w ⌝ }
+{
+    let mut f: u32 = 0;
+    let mut rest = w;
+    let mut n: u32 = 0;
+    while n < k {
+        f = join_label(f, rest % 8);
+        rest = rest / 8;
+        n += 1;
+    }
+    f
 }

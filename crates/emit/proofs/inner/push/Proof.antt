@@ -14,17 +14,15 @@ returns : tie.Need-returns
 returns c = λ P colour.
     let s = c .before .before in
     let a = s .args in
-    fed-white (a .depth) P (a .from) (a .to) (a .out .now) (a .r) (omega (arith, s .pre .2)) (s .pre .3)
-    (λ v x y. colour v x y ∙ not-true (a .black) (c .if1 .taken))
-    (s .pre .1)
+    fed-white (a .depth) P (a .from) (a .to) (a .out .now) (a .r) (omega (arith, s .pre .some)) (s .pre .root) (λ v x y. colour v x y ∙ not-true (a .black) (c .if1 .taken)) (s .pre .ready)
 
 returns-2 : tie.Need-returns-2
 returns-2 c = λ P colour.
     let s = c .before .before .before .before in
     let a = s .args in
-    let h = s .pre .1 in
+    let h = s .pre .ready in
     record {
-      ready = record { run = omega (arith, h .run, h .past, s .pre .2); past = omega arith; few = h .few; root = s .pre .3 };
+      ready = record { run = omega (arith, h .run, h .past, s .pre .some); past = omega arith; few = h .few; root = s .pre .root };
       emits = λ o e.
           emit-black (a .depth) P o (a .out .now) (a .from) (a .to) (a .r .from) (a .r .at)
           (λ v x y. colour v x y ∙ not-false (a .black) (c .before .before .if1 .left))
@@ -33,8 +31,8 @@ returns-2 c = λ P colour.
 
 flush-requires : tie.Need-flush-requires
 flush-requires c κs =
-    let s = c .before .before .before .before .before in
-    (s .pre .0, s .pre .1, λ _. lt-of-le-ne (s .pre .1 .past) (c .before .if2 .left))
+    let p = c .before .before .before .before .before .pre in
+    (p .deep, p .ready, λ _. lt-of-le-ne (p .ready .past) (c .before .if2 .left))
 
 returns-3 : tie.Need-returns-3
 returns-3 c = λ P colour.
@@ -43,7 +41,7 @@ returns-3 c = λ P colour.
     let f = c .before .before .flush in
     let x = f .ensures P in
     record {
-      ready = record { run = omega (arith, s .pre .2); past = omega arith; few = omega (arith, x .ready .few); root = s .pre .3 };
+      ready = record { run = omega (arith, s .pre .some); past = omega arith; few = omega (arith, x .ready .few); root = s .pre .root };
       emits = λ o e.
           emit-black (a .depth) P o (f .last .1 .1 .1 .0) (a .from) (a .to) (a .from) (f .result)
           (λ v x y. colour v x y ∙ not-false (a .black) (c .before .before .before .before .before .before .if1 .left))

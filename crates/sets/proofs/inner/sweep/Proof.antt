@@ -67,7 +67,7 @@ push-requires : tie.Need-push-requires Inv-loop μ-loop
 push-requires c κs =
     let u = c .before .before in
     let p = turn u in
-    (begun u .pre .0, head u .loop .inv .fed .ready, p .some, p .root)
+    record { deep = begun u .pre .0; ready = head u .loop .inv .fed .ready; some = p .some; root = p .root }
 
 pass-requires : tie.Need-pass-requires Inv-loop μ-loop
 pass-requires c κs =

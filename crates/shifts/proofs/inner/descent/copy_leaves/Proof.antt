@@ -1,95 +1,63 @@
 -- `shifts::inner::descent::copy_leaves` meets its contract. The loop's invariant: the leaves before place i are copied. Assumes nothing.
-use Prim.Native.Nat.{_-_}
+use mathlib.Core.Path.{_≡_, sym, ap, _∙_}
+use Prim.Native.Nat.{ℕ, _+_, _-_, _*_, _^_}
 use native.Mathlib.Omega.{arith}
 use borrow.Author.Needs.{needs}
+use lib.ListN.{getD}
 use Rattle.cells.proofs.Words.{pow8-small}
-use Rattle.records.proofs.Search.{proper-at}
-use Rattle.shifts.proofs.Copying.{Copied, copied-none, copied-next, copied-all, leaf-low, leaf-top, leaf-some, leaf-ready}
+use Rattle.records.specs.Record.{black}
+use Rattle.shifts.proofs.Copying.{Copied, Comes, copied-none, copied-leaf, copied-next, copied-all}
 use Rattle.shifts.proofs.inner.descent.copy_leaves.Statement.{statement}
 use Rattle.shifts.proofs.inner.descent.copy_leaves.Tie as tie
 
 abbrev Inv-loop : tie.InvT-loop
-Inv-loop depth l base w from out₀ hi t₀ i₀ out t i = Copied depth l base w from out₀ t₀ i₀ hi out t i
+Inv-loop depth l out₀ from k base hi t₀ i₀ out t i = Copied depth l k base from (record { lo = i₀; hi = hi }) out₀ t₀ out t i
 
 abbrev μ-loop : tie.MeasureT-loop
-μ-loop depth l base w from out₀ hi t₀ i₀ out t i = hi - i
+μ-loop depth l out₀ from k base hi t₀ i₀ out t i = hi - i
 
-loop-holds : tie.Need-loop-holds Inv-loop μ-loop
-loop-holds c =
-    let s = c .before .before in
-    let a = s .args in
-    copied-none (s .pre .1) (s .pre .2) (s .pre .3) (s .pre .4)
+module _ (c : tie.After-cell-from Inv-loop μ-loop) where
+  abbrev start : tie.Start Inv-loop μ-loop
+  start = c .before .before .before
 
-shared-slice-read-c : tie.Need-shared-slice-read-c Inv-loop μ-loop
-shared-slice-read-c c =
-    let s = c .before .before .before .before .before in
-    omega (arith, c .before .loop-test .taken, s .pre .2 .part .within)
+  at : c .cell-from .result ≡ start .pre .0 .held .cell * 8 ^ start .args .c .k
+  at = c .cell-from .ensures _ (start .pre .0 .held .part)
 
-first-requires : tie.Need-first-requires Inv-loop μ-loop
-first-requires c κs =
-    let s = c .before .before .before .before .before in
-    (s .pre .0, proper-at (s .args .depth) (s .args .l .now) (s .pre .1) (c .before .before .loop .i) (omega (arith, c .before .loop-test .taken, s .pre .2 .part .within)))
+module _ (c : tie.In-loop Inv-loop μ-loop) where
+  abbrev found : tie.After-cell-from Inv-loop μ-loop
+  found = c .before .before
 
-sub-v : tie.Need-sub-v Inv-loop μ-loop
-sub-v c =
-    let s = c .before .before .before .before .before .before in
-    let a = s .args in
-    let u = c .before .before .before .loop in
-    let here = c .before .before .loop-test .taken in
-    omega (arith, c .first .ensures, leaf-low (s .pre .1) (s .pre .2) (s .pre .3) (u .inv) here)
+  abbrev begun : tie.Start Inv-loop μ-loop
+  begun = start found
+
+  comes : Comes (begun .args .depth) (found .cell-from .result) (begun .args .c .from) (getD (begun .args .l .now) (c .before .loop .i) 0) (c .before .loop .t)
+  comes = copied-leaf (begun .pre .0 .held) (begun .pre .1) (at found) (begun .pre .0 .root) (c .before .loop .inv) (c .loop-test .taken)
 
 add-v : tie.Need-add-v Inv-loop μ-loop
 add-v c =
-    let s = c .before .before .before .before .before .before in
-    let a = s .args in
-    let u = c .before .before .before .loop in
-    let here = c .before .before .loop-test .taken in
-    record { fits = omega (arith, c .first .ensures, leaf-top (s .pre .1) (s .pre .2) (s .pre .3) (u .inv) here, s .pre .3, pow8-small (a .depth) (s .pre .0)) }
-
-width-requires : tie.Need-width-requires Inv-loop μ-loop
-width-requires c κs =
-    let s = c .before .before .before .before .before .before in
-    (s .pre .0, proper-at (s .args .depth) (s .args .l .now) (s .pre .1) (c .before .before .before .loop .i) (omega (arith, c .before .before .loop-test .taken, s .pre .2 .part .within)))
+    let p = comes (c .before .before) .piece in
+    record { fits = omega (arith, c .first .ensures, p .some, p .root, pow8-small _ (p .deep)) }
 
 add-push : tie.Need-add-push Inv-loop μ-loop
 add-push c =
-    let s = c .before .before .before .before .before .before .before in
-    let a = s .args in
-    let u = c .before .before .before .before .loop in
-    let here = c .before .before .before .loop-test .taken in
-    record { fits = omega (arith, c .before .first .ensures, c .width .ensures, leaf-top (s .pre .1) (s .pre .2) (s .pre .3) (u .inv) here, s .pre .3, pow8-small (a .depth) (s .pre .0)) }
-
-push-requires : tie.Need-push-requires Inv-loop μ-loop
-push-requires c κs =
-    let s = c .before .before .before .before .before .before .before .before in
-    let a = s .args in
-    let u = c .before .before .before .before .before .loop in
-    let here = c .before .before .before .before .loop-test .taken in
-    let x = c .before .before .first .ensures in
-    let y = c .before .width .ensures in (
-      s .pre .0,
-      rw x (leaf-ready (s .pre .1) (s .pre .2) (s .pre .3) (u .inv) here),
-      rw (x, y) (leaf-some (s .pre .1) (s .pre .2) (s .pre .3) (u .inv) here),
-      rw (x, y) (omega (arith, leaf-top (s .pre .1) (s .pre .2) (s .pre .3) (u .inv) here, s .pre .3)),
-    )
+    let p = comes (c .before .before .before) .piece in
+    record { fits = omega (arith, c .before .first .ensures, c .width .ensures, p .root, pow8-small _ (p .deep)) }
 
 loop-again : tie.Need-loop-again Inv-loop μ-loop
 loop-again c =
-    let s = c .before .before .before .before .before .before .before .before .before .before .before in
-    let a = s .args in
-    let u = c .before .before .before .before .before .before .before .before .loop in
-    let here = c .before .before .before .before .before .before .before .loop-test .taken in
-    let q = c .before .before .push in
-    copied-next (s .pre .1) (s .pre .2) (s .pre .3) (u .inv) here
-    (c .before .before .before .before .before .first .result) (c .before .before .before .before .width .result) (c .before .before .before .before .before .first .ensures) (c .before .before .before .before .width .ensures)
-    (q .kept .1 .1 .1 .1 .1 .0) (q .ensures)
+    let push = c .before .before in
+    let width = push .before .before in
+    let turn = width .before .before .before in
+    let s = begun turn in
+    copied-next (s .pre .0 .held) (s .pre .1) (at (found turn)) (s .pre .0 .root) (turn .before .loop .inv) (turn .loop-test .taken)
+    (width .before .first .result) (width .width .result) (width .before .first .ensures) (width .width .ensures) (push .push .kept .1 .1 .1 .1 .1 .0) (push .push .ensures)
 
 returns : tie.Need-returns Inv-loop μ-loop
-returns c =
-    let s = c .before .before .before .before in
-    let a = s .args in
-    let u = c .before .loop in
-    copied-all (s .pre .1) (s .pre .2) (s .pre .3) (u .inv) (c .loop-test .left)
+returns c = λ P b y h.
+    let f = c .before .before in
+    let s = start f in
+    copied-all (s .pre .0 .held) (s .pre .1) (at f) (s .pre .0 .root) (c .before .loop .inv) (c .loop-test .left) P
+    (λ v m n. h v m n ∙ ap (λ (x : ℕ). black (s .args .depth) (s .args .l .now) (x + (v - s .args .c .from))) (sym (f .cell-from .ensures b y)))
 
 pub copy-leaves-spec : {M : Type 1} → statement M
 copy-leaves-spec =
@@ -97,16 +65,17 @@ copy-leaves-spec =
     (tie.spec
     Inv-loop
     μ-loop
-    loop-holds
+    (λ c κs. search needs)
+    (λ c. let p = start c .pre in copied-none (p .0 .held) (p .1) (at c) (p .0 .root) (p .0 .ready))
     (λ c. search needs)
     (λ c. search needs)
-    shared-slice-read-c
-    first-requires
-    sub-v
+    (λ c. omega (arith, c .before .loop-test .taken, begun (c .before) .pre .0 .held .part .within))
+    (λ c κs. let x = comes (c .before) in (x .piece .deep, x .is-proper))
+    (λ c. omega (arith, c .first .ensures, comes (c .before .before) .low))
     add-v
-    width-requires
+    (λ c κs. let x = comes (c .before .before) in (x .piece .deep, x .is-proper))
     add-push
-    push-requires
+    (λ c κs. rw (c .before .before .first .ensures, c .before .width .ensures) (comes (c .before .before .before .before) .piece))
     (λ c. search needs)
     (λ c. search needs)
     loop-again

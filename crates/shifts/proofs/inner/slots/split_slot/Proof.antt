@@ -1,48 +1,29 @@
 -- `shifts::inner::slots::split_slot` meets its contract: an empty slot, a leaf that has all of the cell, leaves that are smaller. Assumes nothing.
-use mathlib.Core.Path.{_≡_, sym, ap, _∙_, subst}
-use Prim.Native.Nat.{ℕ, suc, _+_, _*_, _^_}
+use mathlib.Core.Path.{_≡_, sym, ap, _∙_, subst, subst₂}
+use mathlib.Core.Bool.{Bool, true, false}
+use Prim.Native.Nat.{ℕ, suc, _+_, _*_, _^_, _<_}
 use native.Mathlib.Numerals.{add-one}
-use Rattle.shifts.specs.Slot.{Of, SlotTint, slotAt}
-use Rattle.shifts.proofs.Parts.{whole-white, whole-black, part-place, eight}
 use borrow.Author.Needs.{needs}
+use Rattle.shifts.specs.Slot.{Of, SlotTint, tintOf, slotAt}
+use Rattle.shifts.specs.declared.inner.slots.Tint.{Tint}
+use Rattle.shifts.proofs.Parts.{slot-whole, eightOf, each-of-eight}
 use Rattle.shifts.proofs.inner.slots.split_slot.Statement.{statement}
 use Rattle.shifts.proofs.inner.slots.split_slot.Tie as tie
 
-cut-slot-requires : tie.Need-cut-slot-requires
-cut-slot-requires c κs =
-    let s = c .before .before .before .before .before in
-    let a = s .args in
-    let e : c .before .before .before .pow8 .result ≡ 8 ^ suc (a .k) = c .before .before .before .pow8 .ensures ∙ ap (λ (n : ℕ). 8 ^ n) (add-one (a .k)) in
-    let t = subst (SlotTint (a .depth) (a .l .now) (c .before .before .before .pow8 .result) (a .s)) (c .enum-told3 .given .1) (c .before .before .tint-slot .ensures) in
-    let x = s .pre .3 .1 in
-    let less = rw e at (t .1) in
-    let at = part-place (a .depth) (a .l .now) (s .pre .2) (s .pre .3 .0) (suc (a .k)) (a .s .lo) (a .s .hi) x (t .0) less in
-    ((s .pre .0, s .pre .1, s .pre .2, t .0), (subst (λ (b : ℕ). Of (a .depth) (a .l .now) (suc (a .k)) b (a .s)) (sym at) x, less))
+module _ (q : tie.After-tint-slot) where
+  abbrev s : tie.Start
+  s = q .before .before .before
 
-returns : tie.Need-returns
-returns c = λ b x m h.
-    let s = c .before .before .before .before .before in
-    let a = s .args in
-    let e : c .before .before .before .pow8 .result ≡ 8 ^ suc (a .k) = c .before .before .before .pow8 .ensures ∙ ap (λ (n : ℕ). 8 ^ n) (add-one (a .k)) in
-    let t = subst (SlotTint (a .depth) (a .l .now) (c .before .before .before .pow8 .result) (a .s)) (c .enum-told .given .1) (c .before .before .tint-slot .ensures) in
-    subst (Of (a .depth) (a .l .now) (a .k) (8 * b + m)) (sym (eight (a .s) m h)) (whole-white (a .depth) (a .l .now) b (a .k) (a .s .lo) (a .s .hi) x m h t)
+  -- the tint as the match told it
+  told : {t : Tint} → q .tint-slot .result ≡ t → SlotTint (s .args .depth) (s .args .l .now) (8 ^ suc (s .args .k)) (s .args .s) t
+  told e =
+      let a = s .args in
+      let wide = q .before .pow8 .ensures ∙ ap (λ (n : ℕ). 8 ^ n) (add-one (a .k)) in
+      subst₂ (λ (w : ℕ) (t : Tint). SlotTint (a .depth) (a .l .now) w (a .s) t) wide e (q .tint-slot .ensures)
 
-returns-2 : tie.Need-returns-2
-returns-2 c = λ b x m h.
-    let s = c .before .before .before .before .before in
-    let a = s .args in
-    let e : c .before .before .before .pow8 .result ≡ 8 ^ suc (a .k) = c .before .before .before .pow8 .ensures ∙ ap (λ (n : ℕ). 8 ^ n) (add-one (a .k)) in
-    let t = subst (SlotTint (a .depth) (a .l .now) (c .before .before .before .pow8 .result) (a .s)) (c .enum-told2 .given .1) (c .before .before .tint-slot .ensures) in
-    subst (Of (a .depth) (a .l .now) (a .k) (8 * b + m)) (sym (eight (a .s) m h)) (whole-black (a .depth) (a .l .now) b (a .k) (a .s .lo) (a .s .hi) x m h (s .pre .2) (t .0) (rw e at (t .1)))
-
-returns-3 : tie.Need-returns-3
-returns-3 c = λ b x m h.
-    let s = c .before .before .before .before .before .before in
-    let a = s .args in
-    let e : c .before .before .before .before .pow8 .result ≡ 8 ^ suc (a .k) = c .before .before .before .before .pow8 .ensures ∙ ap (λ (n : ℕ). 8 ^ n) (add-one (a .k)) in
-    let t = subst (SlotTint (a .depth) (a .l .now) (c .before .before .before .before .pow8 .result) (a .s)) (c .before .enum-told3 .given .1) (c .before .before .before .tint-slot .ensures) in
-    let at = part-place (a .depth) (a .l .now) (s .pre .2) b (suc (a .k)) (a .s .lo) (a .s .hi) x (t .0) (rw e at (t .1)) in
-    subst (λ (n : ℕ). Of (a .depth) (a .l .now) (a .k) (8 * n + m) (slotAt (c .cut-slot .result) m)) at (c .cut-slot .ensures m h)
+  -- of one colour, it is each child's as it is
+  repeated : (c : Bool) → q .tint-slot .result ≡ tintOf c → (b : ℕ) → Of (s .args .depth) (s .args .l .now) (suc (s .args .k)) b (s .args .s) → (m : ℕ) → m < 8 → Of (s .args .depth) (s .args .l .now) (s .args .k) (8 * b + m) (slotAt (eightOf (s .args .s)) m)
+  repeated c e b x m h = subst (Of _ _ _ _) (sym (each-of-eight (s .args .s) m h)) (slot-whole x m h (s .pre .source) c (told e))
 
 pub split-slot-spec : {M : Type 1} → statement M
 split-slot-spec =
@@ -54,7 +35,7 @@ split-slot-spec =
     (λ c. search needs)
     (λ c. search needs)
     (λ c. search needs)
-    cut-slot-requires
-    returns
-    returns-2
-    returns-3)
+    (λ c κs. (s (c .before .before) .pre, told (c .before .before) (c .enum-told3 .given .1)))
+    (λ c. repeated (c .before .before) false (c .enum-told .given .1))
+    (λ c. repeated (c .before .before) true (c .enum-told2 .given .1))
+    (λ c. c .cut-slot .ensures))

@@ -1,14 +1,15 @@
 -- `shifts::inner::slots::tint_slot` meets its contract. Assumes nothing.
 use native.Mathlib.Omega.{arith}
-use Rattle.records.proofs.Search.{proper-at}
 use borrow.Author.Needs.{needs}
+use Rattle.records.proofs.Search.{proper-at}
 use Rattle.shifts.proofs.inner.slots.tint_slot.Statement.{statement}
 use Rattle.shifts.proofs.inner.slots.tint_slot.Tie as tie
 
 width-requires : tie.Need-width-requires
 width-requires c κs =
     let s = c .before .before .before .before in
-    (s .pre .0, proper-at (s .args .depth) (s .args .l .now) (s .pre .1) (s .args .s .lo) (omega (arith, c .before .if1 .left, s .pre .2)))
+    let o = s .pre .0 in
+    (o .deep, proper-at (s .args .depth) (s .args .l .now) (o .ordered) (s .args .s .lo) (omega (arith, c .before .if1 .left, s .pre .1)))
 
 pub tint-slot-spec : {M : Type 1} → statement M
 tint-slot-spec =

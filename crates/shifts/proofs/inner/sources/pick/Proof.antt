@@ -1,15 +1,15 @@
--- `shifts::inner::slots::pick` meets its contract. The loop's invariant: the slots before q are picked. Assumes nothing.
+-- `shifts::inner::sources::pick` meets its contract. The loop's invariant: the slots before q are picked. Assumes nothing.
 use mathlib.Core.Path.{_≡_, refl}
 use mathlib.Core.List.{List}
 use Prim.Native.Nat.{ℕ, _-_}
 use native.Mathlib.Omega.{arith}
 use borrow.Author.Needs.{needs}
 use Rattle.shifts.specs.Labels.{sumLabel, carryLabel}
-use Rattle.shifts.specs.Slot.{partAt}
+use Rattle.shifts.specs.Descent.{partAt}
 use Rattle.shifts.specs.declared.inner.slots.Slot.{Slot}
 use Rattle.shifts.proofs.Arrays.{Filled, filled-none, filled-more}
-use Rattle.shifts.proofs.inner.slots.pick.Statement.{statement}
-use Rattle.shifts.proofs.inner.slots.pick.Tie as tie
+use Rattle.shifts.proofs.inner.sources.pick.Statement.{statement}
+use Rattle.shifts.proofs.inner.sources.pick.Tie as tie
 
 -- slot q is the part that the labels say
 abbrev Picked : List (List Slot) → ℕ → ℕ → ℕ → Slot → Type 0
