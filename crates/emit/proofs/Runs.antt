@@ -1,45 +1,29 @@
 -- Laws of the emitter: the next cell of the pending run, a white and a black piece, the end; and writers one after the other. Assumes nothing.
 use mathlib.Core.Path.{_≡_, refl, sym, ap, _∙_, subst}
-use mathlib.Core.List.{List, [], _∷_, _++_, List·Memᴰ, List·Memᴰ·append-cases, List·Memᴰ·eq-of-singleton, List·Memᴰ·not-nil, Memᴰ·cast}
+use mathlib.Core.List.{List, [], _∷_, _++_, List·Memᴰ, List·Memᴰ·append-cases, List·Memᴰ·eq-of-singleton, List·Memᴰ·not-nil}
 use mathlib.Core.Bool.{Bool, true, false, _||_, or-false}
 use mathlib.Core.Logic.{_⊎_, inl, inr, ⊎-elim}
-use Prim.Native.Nat.{ℕ, zero, suc, _+_, _-_, _*_, _/_, _^_, _<_, _≤_}
-use native.Mathlib.Nat.{add-mul, mul-div-cancel, le-of-mul-le-mul-right, suc-mul, add-zero}
+use Prim.Native.Nat.{ℕ, suc, _+_, _-_, _*_, _/_, _^_, _<_, _≤_}
+use native.Mathlib.Nat.{add-mul, mul-div-cancel, le-of-mul-le-mul-right, suc-mul}
 use native.Mathlib.Omega.{arith}
 use lib.ListN.{set, length-append}
 use lib.Seq.{sets}
-use Rattle.cells.specs.Cell.{level, proper, span, start, holds}
-use Rattle.cells.proofs.Bools.{clash}
+use Rattle.cells.specs.Cell.{proper, span, start, holds}
 use Rattle.cells.proofs.Power.{le-or-lt, pow8-pos, pow8-le-inv, pow8-split}
-use Rattle.cells.proofs.Cells.{Child, proper-bounds, cell-of, child, parent, start-multiple, within}
-use Rattle.records.specs.Record.{black, Ordered, Condensed}
-use Rattle.records.proofs.Lists.{holds-true, held, before-cell, after-cell, black-held, black-past, ordered-snoc}
-use Rattle.records.proofs.Leaves.{member, member-black}
-use Rattle.records.proofs.Fill.{black-append, in-child}
+use Rattle.cells.proofs.Cells.{cell-of, start-multiple, within}
+use Rattle.records.specs.Record.{black, Ordered}
+use Rattle.records.specs.Inner.{White}
+use Rattle.records.proofs.Lists.{held, before-cell, after-cell, black-held, black-past}
+use Rattle.records.proofs.Leaves.{black-append, ordered-snoc}
+use Rattle.records.proofs.Parents.{first-child, capped-condensed}
 use Rattle.emit.specs.declared.inner.Runs.{Runs}
-use Rattle.emit.specs.Inner.{Fit, White, Ready, fresh, Emitted, Fed, Result}
+use Rattle.emit.specs.Inner.{Fit, Ready, fresh, Emitted, Fed, Result}
 use Rattle.records.proofs.Writing.{sets-append}
 
 -- ---- cells
 
 pub fit-some : {p to w : ℕ} → Fit p to w → 0 < w
 fit-some f = omega (arith, pow8-pos (f .k), f .wide)
-
--- a code 8 * q is that of a first child, and q is its parent
-pub record First (D q : ℕ) : Type 0 where
-  pub is-proper : proper D q ≡ true
-  pub is-above : level D q < D
-  pub is-start : start D q ≡ start D (8 * q)
-  pub is-span : span D q ≡ 8 * span D (8 * q)
-
-pub first-child : (D q : ℕ) → proper D (8 * q) ≡ true → First D q
-first-child D zero p = absurd (omega (arith, proper-bounds D 0 p, pow8-pos (level D 0)))
-first-child D (suc r) p =
-    let q : ℕ = suc r in
-    let e : 8 * q + 0 ≡ 8 * q = add-zero (8 * q) in
-    let (a, b) = parent D q 0 (omega arith) (omega arith) (rw e p) in
-    let x : Child D q (8 * q) 0 = rw e at (child D q 0 a b (omega arith)) in
-    record { is-proper = a; is-above = b; is-start = omega (arith, x .is-start); is-span = sym (x .is-span) }
 
 -- a voxel outside a leaf is white in the list of that leaf alone
 black-missed : (D c v : ℕ) → holds D c v ≡ false → black D (c ∷ []) v ≡ false
@@ -178,22 +162,11 @@ module _ (D : ℕ) (P : ℕ → Bool) (o : List ℕ) where
 
   -- ---- the end
 
-  -- the parent of each first child has a white voxel, so no eight leaves are the children of one cell
-  capped-condensed : (l : List ℕ) → Ordered D 0 l → ((v : ℕ) → v < 8 ^ D → black D l v ≡ P v) → ((q : ℕ) → List·Memᴰ (8 * q) l → White D P q) → Condensed l
-  unfolding Condensed
-  capped-condensed l ordered same capped q all =
-      let first : List·Memᴰ (8 * q) l = Memᴰ·cast (sym (add-zero (8 * q))) (all 0 (omega arith)) in
-      let x = first-child D q (member D 0 l (8 * q) ordered first .0) in
-      let a : White D P q = capped q first in
-      let (j, h, k) = in-child D q (a .voxel) (x .is-proper) (x .is-above) (a .inside) in
-      let inside : a .voxel < 8 ^ D = omega (arith, within D q (x .is-proper), holds-true D q (a .voxel) (a .inside)) in
-      clash (member-black D (8 * q + j) l (a .voxel) (all j h) k) (same (a .voxel) inside ∙ a .white)
-
   -- all is known, and no run is pending
   pub emit-done : (out : List ℕ) (n : ℕ) → Emitted D P o out (8 ^ D) (fresh (8 ^ D) n) → Result D P o out n
   emit-done out n e = record {
     cells = e .cells;
-    good = record { ordered = e .ordered; condensed = capped-condensed (e .cells) (e .ordered) (e .below) (e .capped) };
+    good = record { ordered = e .ordered; condensed = capped-condensed D P (e .cells) (e .ordered) (e .below) (e .capped) };
     same = e .below;
     count = e .count;
     written = e .written;

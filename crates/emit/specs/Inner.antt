@@ -6,7 +6,7 @@ use Prim.Native.Nat.{ℕ, _+_, _*_, _^_, _<_, _≤_}
 use lib.ListN.{length}
 use lib.Seq.{sets}
 use Rattle.cells.specs.Answer.{deepest}
-use Rattle.cells.specs.Cell.{holds}
+use Rattle.records.specs.Inner.{White}
 use Rattle.records.specs.Record.{black, Ordered, Good}
 use Rattle.emit.specs.declared.inner.Runs.{Runs}
 
@@ -18,12 +18,6 @@ pub record Fit (p to w : ℕ) : Type 0 where
   pub even : p ≡ q * w
   pub fits : p + w ≤ to
   pub most : (m : ℕ) → p ≡ m * (8 * w) → p + 8 * w ≤ to → ⊥
-
--- the cell q has a white voxel
-pub record White (D : ℕ) (P : ℕ → Bool) (q : ℕ) : Type 0 where
-  pub voxel : ℕ
-  pub inside : holds D q voxel ≡ true
-  pub white : P voxel ≡ false
 
 -- the pending run [from, to) lies before voxel pos, and no more codes than voxels stand before it
 pub record Ready (D : ℕ) (r : Runs) (pos : ℕ) : Type 0 where
