@@ -6,16 +6,18 @@ use Prim.Native.Nat.{ℕ}
 use lib.IntN.{ℤ}
 use lib.ListN.{length, drop}
 use lib.Seq.{drop-append-seam}
-use Rattle.cells.specs.Answer.{keeping, TooDeep}
+use Rattle.cells.specs.Answer.{keeping, deepest, TooDeep}
 use Rattle.cells.specs.declared.Answer.{Answer}
 use Rattle.cells.proofs.Decisions.{decided-all}
+use Rattle.cells.specs.Place.{axes, Came}
 use Rattle.records.specs.Fault.{Faulty}
+use Rattle.records.specs.Carried.{FromBlack, Straying}
 use Rattle.records.specs.Writing.{Crowded, Written}
 use Rattle.sets.specs.declared.Op.{Op}
-use Rattle.sets.specs.Sets.{Taken, SetOf}
+use Rattle.sets.specs.Sets.{InResult, SetOf}
 use Rattle.metres.specs.Metres.{moveTests}
 use Rattle.metres.specs.declared.Move.{Move}
-use Rattle.moves.specs.Moves.{FromBlack, Leaving, ShiftOf, MoveOf}
+use Rattle.moves.specs.Moves.{ShiftOf, MoveOf}
 use Rattle.demands.specs.Laws.{Succeeds}
 use Rattle.demands.proofs.Outcomes.{Left}
 
@@ -37,14 +39,14 @@ kept-written D Q o t (l, x, e, f) = record {
 
 pub set-keeps : (op : Op) (D : ℕ) (a b o o' : List ℕ) (r : Answer) → SetOf op D a b o r o' → Kept o (r, o')
 set-keeps op D a b o o' r d =
-    let Q : ℕ → Type 0 = Taken op D a b in
-    decided-all (keeping o) (TooDeep D ∷ Faulty D a 1 ∷ Faulty D b 2 ∷ Crowded D Q o ∷ []) (Written D Q o) (Kept o) (r, o') (kept-refused o) (kept-written D Q o (r, o')) d
+    let Q : ℕ → Type 0 = InResult op D a b in
+    decided-all (keeping o) (TooDeep deepest D ∷ Faulty D a 1 ∷ Faulty D b 2 ∷ Crowded D Q o ∷ []) (Written D Q o) (Kept o) (r, o') (kept-refused o) (kept-written D Q o (r, o')) d
 
-shift-keeps : (D : ℕ) (l : List ℕ) (dx dy dz : ℤ) (o : List ℕ) (t : Left) → ShiftOf D l dx dy dz o t → Kept o t
-shift-keeps D l dx dy dz o t d =
-    let Q : ℕ → Type 0 = FromBlack D dx dy dz l in
-    decided-all (keeping o) (Leaving D dx dy dz l ∷ Crowded D Q o ∷ []) (Written D Q o) (Kept o) t (kept-refused o) (kept-written D Q o t) d
+shift-keeps : (D : ℕ) (l : List ℕ) (d : ℕ → ℤ) (o : List ℕ) (t : Left) → ShiftOf D l d o t → Kept o t
+shift-keeps D l d o t s =
+    let Q : ℕ → Type 0 = FromBlack D (Came D d) l in
+    decided-all (keeping o) (Straying D (Came D d) l ∷ Crowded D Q o ∷ []) (Written D Q o) (Kept o) t (kept-refused o) (kept-written D Q o t) s
 
 pub move-keeps : (D : ℕ) (l : List ℕ) (m : Move) (o o' : List ℕ) (r : Answer) → MoveOf D l m o r o' → Kept o (r, o')
 move-keeps D l m o o' r d =
-    decided-all (keeping o) (TooDeep D ∷ Faulty D l 1 ∷ moveTests m) _ (Kept o) (r, o') (kept-refused o) (λ (dx, dy, dz, _, t). shift-keeps D l dx dy dz o (r, o') t) d
+    decided-all (keeping o) (TooDeep deepest D ∷ Faulty D l 1 ∷ moveTests m) _ (Kept o) (r, o') (kept-refused o) (λ (dx, dy, dz, _, t). shift-keeps D l (axes dx dy dz) o (r, o') t) d

@@ -7,6 +7,7 @@ use native.Mathlib.Omega.{arith}
 use lib.IntN.{ℤ}
 use lib.ListN.{length}
 use Rattle.cells.specs.Answer.{deepest}
+use Rattle.cells.specs.Place.{Came}
 use Rattle.cells.specs.declared.Answer.{Answer}
 use Rattle.records.specs.Record.{Good}
 use Rattle.records.proofs.Most.{most, most-leaves}
@@ -14,17 +15,17 @@ use Rattle.emit.proofs.Answers.{Told}
 use Rattle.sets.specs.declared.Op.{Op}
 use Rattle.sets.specs.Sets.{Takes, SetOf}
 use Rattle.demands.specs.Laws.{move, Roomy}
-use Rattle.demands.proofs.Outcomes.{Outcome, move-outcome, combine-told}
+use Rattle.demands.proofs.Outcomes.{displacement, Outcome, move-carries, combine-told}
 
 told-roomy : (D : ℕ) (Q : ℕ → Type 0) (o o' : List ℕ) (r : Answer) → most D ≤ length o → Told D Q o (r, o') → Roomy r
 told-roomy D Q o o' r room (inl (a, (l, x, h, e), f)) z = omega (arith, most-leaves D l (x .good))
 told-roomy D Q o o' r room (inr (_, (l, x, e, f))) z = let g : _≡_ {A = ℕ} 0 8 = sym (ap (λ (a : Answer). a .number) e) ∙ z in omega arith
 
 module _ (D : ℕ) (o o' : List ℕ) (r : Answer) (shallow : D ≤ deepest) (room : most D ≤ length o) where
-  pub move-roomy : (l : List ℕ) (dx dy dz : ℤ) → Good D l → move D l dx dy dz o r o' → Roomy r
-  move-roomy l dx dy dz g m = go (move-outcome D l dx dy dz o o' r shallow g m)
+  pub move-roomy : (l : List ℕ) (d : ℕ → ℤ) → Good D l → move D l d o r o' → Roomy r
+  move-roomy l d g m = go (move-carries .outcome D l d o o' r shallow g m)
     where
-      go : Outcome D l dx dy dz o o' r → Roomy r
+      go : Outcome D l (Came D (displacement d)) o o' r → Roomy r
       go (inl (seven, _)) z = let g : _≡_ {A = ℕ} 7 8 = sym seven ∙ z in omega arith
       go (inr (_, t)) z = told-roomy D _ o o' r room t z
 

@@ -1,17 +1,19 @@
 -- The checked examples of document 01 as rows: a call with its inputs, and what it leaves. A row that has a star there stands with its whole bullet.
 -- Definitions only.
-use mathlib.Core.List.{List, [], _∷_, _++_}
+use mathlib.Core.List.{List, [], _∷_}
 use mathlib.Core.Path.{_≡_}
 use Prim.Native.Nat.{ℕ}
 use lib.Ieee.{binary64, ofBits}
 use lib.IntN.{ℤ, pos, negsuc}
-use lib.ListN.{length, drop}
+use lib.ListN.{length}
 use Rattle.cells.specs.Answer.{answer, given}
 use Rattle.cells.specs.Neighbour.{NeighbourOf}
+use Rattle.cells.specs.Place.{axes}
 use Rattle.cells.specs.declared.Answer.{Answer}
 use Rattle.records.specs.Calls.{CheckOf, VolumeOf}
+use Rattle.records.specs.Writing.{stands}
 use Rattle.sets.specs.declared.Op.{Op}
-use Rattle.sets.specs.declared.Op.the-variants.{Join, Less}
+use Rattle.sets.specs.declared.Op.the-variants.{Join, Subtract}
 use Rattle.sets.specs.Sets.{SetOf}
 use Rattle.metres.specs.Metres.{Becomes}
 use Rattle.metres.specs.declared.Move.{Move}
@@ -33,12 +35,12 @@ pub data Row : Type 0 where
 
 -- The row fits the definition that is the call's contract: whatever stands in the buffer, the list is written at its front, and beyond it is as it was.
 abbrev pub Fits : Row → Type 0
-Fits (moves D l m n r w) = (o : List ℕ) → length o ≡ n → MoveOf D l m o r (w ++ drop (length w) o)
-Fits (makes op D a b n r w) = (o : List ℕ) → length o ≡ n → SetOf op D a b o r (w ++ drop (length w) o)
+Fits (moves D l m n r w) = (o : List ℕ) → length o ≡ n → MoveOf D l m o r (stands w o)
+Fits (makes op D a b n r w) = (o : List ℕ) → length o ≡ n → SetOf op D a b o r (stands w o)
 Fits (checks D l r) = CheckOf D l r
 Fits (measures D l r) = VolumeOf D l r
-Fits (steps D c dx dy dz r) = NeighbourOf D c dx dy dz r
-Fits (becomes m i j k) = Becomes m i j k
+Fits (steps D c dx dy dz r) = NeighbourOf D c (axes dx dy dz) r
+Fits (becomes m i j k) = Becomes m (axes i j k)
 
 abbrev pub All : (Row → Type 0) → List Row → Type 0
 All F [] = Unit {0}
@@ -96,7 +98,7 @@ table =
     ∷ steps 1 8 (negsuc 0) (pos 0) (pos 0) (answer 7 0 0)
     ∷ checks 1 (8 ∷ 9 ∷ 10 ∷ 11 ∷ 12 ∷ 13 ∷ 14 ∷ 15 ∷ []) (answer 4 7 1)
     ∷ makes Join 1 (8 ∷ 9 ∷ 10 ∷ 11 ∷ []) (12 ∷ 13 ∷ 14 ∷ 15 ∷ []) 1 (given 1) root  -- *
-    ∷ makes Less 3 root r057 21 (given 21) rest  -- *
+    ∷ makes Subtract 3 root r057 21 (given 21) rest  -- *
     ∷ measures 3 rest (given 511)  -- *
     ∷ becomes sixteenths (pos 1) (pos 0) (pos 2)  -- *
     ∷ moves 3 r057 sixteenths 1 (given 1) (838 ∷ [])  -- r506

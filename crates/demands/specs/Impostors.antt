@@ -3,19 +3,20 @@ use mathlib.Core.Path.{_≡_}
 use mathlib.Core.Bool.{true}
 use mathlib.Core.List.{[], _∷_}
 use Prim.Native.Nat.{ℕ}
-use lib.IntN.{pos}
-use Rattle.cells.specs.Answer.{Decided, keeping, TooDeep}
+use lib.IntN.{ℤ, pos}
+use Rattle.cells.specs.Answer.{Decided, keeping, deepest, TooDeep}
+use Rattle.cells.specs.Place.{axes}
 use Rattle.records.specs.Record.{black}
 use Rattle.records.specs.Fault.{Faulty}
 use Rattle.records.specs.Writing.{Crowded, Written}
-use Rattle.demands.specs.Laws.{Mover, Combiner, move}
+use Rattle.demands.specs.Laws.{Carrier, Combiner, move}
 
--- A call with the tests of join, meet and less, that gives the good list of the voxels that T takes, from whether they are black in the first list and in the
+-- A call with the tests of join, intersect and subtract, that gives the good list of the voxels that T takes, from whether they are black in the first list and in the
 -- second. `SetOf op` is `Combines (Takes op)`.
 abbrev pub Combines : (Type 0 → Type 0 → Type 0) → Combiner
 Combines T D a b o r o' =
     let Q : ℕ → Type 0 = λ v. T (black D a v ≡ true) (black D b v ≡ true) in
-    Decided (keeping o) (TooDeep D ∷ Faulty D a 1 ∷ Faulty D b 2 ∷ Crowded D Q o ∷ []) (Written D Q o) (r, o')
+    Decided (keeping o) (TooDeep deepest D ∷ Faulty D a 1 ∷ Faulty D b 2 ∷ Crowded D Q o ∷ []) (Written D Q o) (r, o')
 
 -- a join that is its first list, and an intersection that is its second
 abbrev pub firstList : Combiner
@@ -25,5 +26,5 @@ abbrev pub secondList : Combiner
 secondList = Combines (λ A B. B)
 
 -- a move that goes along x and skips y and z
-abbrev pub alongX : Mover
-alongX D l dx dy dz = move D l dx (pos 0) (pos 0)
+abbrev pub alongX : Carrier (ℕ → ℤ)
+alongX D l d = move D l (axes (d 0) (pos 0) (pos 0))

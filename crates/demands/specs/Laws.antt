@@ -1,4 +1,4 @@
--- Demand 3 of the order, sentence by sentence, as laws of any calls that move a list or make one list of two. The theorems of proofs/ say that the library's
+-- Demand 3 of the order, sentence by sentence, as laws of any calls that carry a list or make one list of two. The theorems of proofs/ say that the library's
 -- calls keep them. The order's conditions are the hypotheses: moves in whole voxels, calls that succeed where their list is taken further, buffers with room.
 -- A displacement is any whole number here; the call takes those that can be written, and so a sum that can be written. Definitions only.
 use mathlib.Core.Path.{_≡_}
@@ -14,26 +14,26 @@ use Rattle.moves.specs.Moves.{MoveOf}
 
 -- ---- calls
 
--- a call that moves a list by whole voxels along x, y and z: the depth, the list, the displacement and the buffer; the answer and the buffer afterwards
-abbrev pub Mover : Type 1
-Mover = ℕ → List ℕ → ℤ → ℤ → ℤ → List ℕ → Answer → List ℕ → Type 0
+-- a call that carries a list voxel by voxel, as x says: the depth, the list, x and the buffer; the answer and the buffer afterwards
+abbrev pub Carrier : Type 0 → Type 1
+Carrier X = ℕ → List ℕ → X → List ℕ → Answer → List ℕ → Type 0
 
 -- a call that makes one list of two
 abbrev pub Combiner : Type 1
 Combiner = ℕ → List ℕ → List ℕ → List ℕ → Answer → List ℕ → Type 0
 
--- the library's move, in whole voxels. Its join, intersection and difference are `SetOf Join`, `SetOf Meet` and `SetOf Less`.
-abbrev pub move : Mover
-move D l dx dy dz = MoveOf D l (Voxels dx dy dz)
+-- the library's move, by whole voxels along each axis. Its join, intersection and difference are `SetOf Join`, `SetOf Intersect` and `SetOf Subtract`.
+abbrev pub move : Carrier (ℕ → ℤ)
+move D l d = MoveOf D l (Voxels (d 0) (d 1) (d 2))
 
 -- ---- what an answer tells
 
 abbrev pub Succeeds : Answer → Type 0
 Succeeds r = r .number ≡ 0
 
--- the move leaves the root: it is not accepted
-abbrev pub Leaves : Answer → Type 0
-Leaves r = r .number ≡ 7
+-- some voxel would leave the root
+abbrev pub Unaccepted : Answer → Type 0
+Unaccepted r = r .number ≡ 7
 
 -- the buffer had room
 abbrev pub Roomy : Answer → Type 0
@@ -52,36 +52,36 @@ pub record Alike (r : Answer) (o : List ℕ) (s : Answer) (p : List ℕ) : Type 
 -- ---- the laws
 
 -- "If a first move is accepted, a second is accepted exactly when the single move by their sum is, and ends in the same list."
-abbrev pub TwoMoves : Mover → Type 0
+abbrev pub TwoMoves : Carrier (ℕ → ℤ) → Type 0
 TwoMoves M =
-    (D : ℕ) (l : List ℕ) (dx dy dz ex ey ez : ℤ)
+    (D : ℕ) (l : List ℕ) (d e : ℕ → ℤ)
     -- a first move
-    → (o o' : List ℕ) (r : Answer) → M D l dx dy dz o r o' → Succeeds r
+    → (o o' : List ℕ) (r : Answer) → M D l d o r o' → Succeeds r
     -- a second move, of the list that it wrote
-    → (p p' : List ℕ) (s : Answer) → M D (wrote r o') ex ey ez p s p'
+    → (p p' : List ℕ) (s : Answer) → M D (wrote r o') e p s p'
     -- the single move by their sum
-    → (q q' : List ℕ) (t : Answer) → M D l (dx +ℤ ex) (dy +ℤ ey) (dz +ℤ ez) q t q'
-    → (Leaves s ↔ Leaves t) × ((Leaves s → ⊥) → Roomy s → Roomy t → Alike s p' t q')
+    → (q q' : List ℕ) (t : Answer) → M D l (λ a. d a +ℤ e a) q t q'
+    → (Unaccepted s ↔ Unaccepted t) × ((Unaccepted s → ⊥) → Roomy s → Roomy t → Alike s p' t q')
 
 -- "If two lists can both take a move, then moving and then joining, intersecting or subtracting gives the same list as doing that first and then moving."
-abbrev pub Distributes : Mover → Combiner → Type 0
-Distributes M C =
-    (D : ℕ) (a b : List ℕ) (dx dy dz : ℤ)
+abbrev pub Distributes : {X : Type 0} → Carrier X → Combiner → Type 0
+Distributes {X} M C =
+    (D : ℕ) (a b : List ℕ) (x : X)
     -- both lists are moved
-    → (o o' : List ℕ) (r : Answer) → M D a dx dy dz o r o' → Succeeds r
-    → (p p' : List ℕ) (s : Answer) → M D b dx dy dz p s p' → Succeeds s
+    → (o o' : List ℕ) (r : Answer) → M D a x o r o' → Succeeds r
+    → (p p' : List ℕ) (s : Answer) → M D b x p s p' → Succeeds s
     -- and made one
     → (q q' : List ℕ) (t : Answer) → C D (wrote r o') (wrote s p') q t q'
     -- both lists are made one
     → (f f' : List ℕ) (u : Answer) → C D a b f u f' → Succeeds u
     -- and moved
-    → (g g' : List ℕ) (w : Answer) → M D (wrote u f') dx dy dz g w g'
-    → (Leaves w → ⊥) × (Roomy t → Roomy w → Alike t q' w g')
+    → (g g' : List ℕ) (w : Answer) → M D (wrote u f') x g w g'
+    → (Unaccepted w → ⊥) × (Roomy t → Roomy w → Alike t q' w g')
 
 -- "Moves keep the black volume": both volumes are answers of the volume call
-abbrev pub KeepsVolume : Mover → Type 0
-KeepsVolume M =
-    (D : ℕ) (l : List ℕ) (dx dy dz : ℤ) (o o' : List ℕ) (r : Answer) → M D l dx dy dz o r o' → Succeeds r
+abbrev pub KeepsVolume : {X : Type 0} → Carrier X → Type 0
+KeepsVolume {X} M =
+    (D : ℕ) (l : List ℕ) (x : X) (o o' : List ℕ) (r : Answer) → M D l x o r o' → Succeeds r
     → (v w : Answer) → VolumeOf D l v → VolumeOf D (wrote r o') w → Succeeds v × (w ≡ v)
 
 -- "the volumes of the join and the intersection add up to those of the two lists"
