@@ -56,6 +56,10 @@ along-step b n m w h =
     let q : (8 * m + w) % 8 ≡ w = omega arith in
     rw (p, q)
 
+-- a label more in a sum along an axis, where l is what is carried out of the first label
+pub along-carry : (b n s t l : ℕ) → t < 8 → along b (suc n) (8 * s + t) + l * 2 ^ suc n ≡ 2 * (along b n s + l * 2 ^ n) + t / b % 2
+along-carry b n s t l h = omega (arith, along-step b n s t h, ap (λ (x : ℕ). l * x) (pow2-suc n))
+
 pub number-along : (n v : ℕ) → v < 8 ^ n → number n (along 1 n v) (along 2 n v) (along 4 n v) ≡ v
 unfolding number along
 number-along zero v h = let e : 8 ^ 0 ≡ 1 = refl in omega arith

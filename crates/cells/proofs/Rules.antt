@@ -2,17 +2,15 @@
 -- is the rule of document 01 on each axis. An axis is a number a below 3: x, y, z. Its bit in a label is 2 ^ a, its digit in a direction has the weight 3 ^ a.
 -- Assumes nothing.
 use mathlib.Core.Path.{_≡_, refl}
-use mathlib.Core.Bool.{Bool}
 use mathlib.Core.List.{List, [], _∷_}
 use Prim.Native.Nat.{ℕ, zero, suc, _+_, _*_, _/_, _%_, _^_, _<_}
 use native.Mathlib.Omega.{arith}
-use lib.Dec.{T, eqb, ltb, eqb→eq, ltb→lt}
+use lib.Dec.{eqb, ltb, eqb→eq, ltb→lt}
 use lib.ListN.{getD}
 use Rattle.cells.specs.Place.{EachAxis}
 use Rattle.cells.specs.Labels.{flips, carries}
 use Rattle.cells.specs.Payeur.{under, rule}
-use Rattle.cells.proofs.Places.{each-axis}
-use Rattle.cells.proofs.Table.{both, both-left, both-right, at}
+use Rattle.cells.proofs.Table.{at, at2, at3}
 
 -- the table as the code has it: 27 entries for each label
 abbrev pub rules : List ℕ
@@ -31,75 +29,27 @@ pub record ByRule (a v d e : ℕ) : Type 0 where
   pub label : e % 8 / 2 ^ a % 2 ≡ flips (v / 2 ^ a % 2) (d / 3 ^ a % 3)
   pub carry : e / 8 / 3 ^ a % 3 ≡ carries (v / 2 ^ a % 2) (d / 3 ^ a % 3)
 
-by-rule : ℕ → ℕ → ℕ → ℕ → Bool
-by-rule a v d e =
-    both (eqb (e % 8 / 2 ^ a % 2) (flips (v / 2 ^ a % 2) (d / 3 ^ a % 3)))
-    (eqb (e / 8 / 3 ^ a % 3) (carries (v / 2 ^ a % 2) (d / 3 ^ a % 3)))
-
-by-rule-is : (a v d e : ℕ) → T (by-rule a v d e) → ByRule a v d e
-unfolding by-rule
-by-rule-is a v d e t = record {
-  label = eqb→eq _ _ (both-left (eqb (e % 8 / 2 ^ a % 2) (flips (v / 2 ^ a % 2) (d / 3 ^ a % 3))) _ t);
-  carry = eqb→eq _ _ (both-right (eqb (e % 8 / 2 ^ a % 2) (flips (v / 2 ^ a % 2) (d / 3 ^ a % 3))) _ t);
-}
-
--- the test of entry k: label k / 27, direction k % 27
-right : ℕ → ℕ → Bool
-right k x =
-    both (eqb x (rule (k / 27) (k % 27)))
-    (both (ltb x 216)
-    (both (by-rule 0 (k / 27) (k % 27) x)
-    (both (by-rule 1 (k / 27) (k % 27) x)
-    (by-rule 2 (k / 27) (k % 27) x))))
-
--- what it tells of the label v and the direction d
+-- what the test tells of the label v and the direction d
 pub record Fair (v d : ℕ) : Type 0 where
   pub printed : getD rules (v * 27 + d) 0 ≡ rule v d
   pub small : rule v d < 216
   pub axis : EachAxis (λ a. ByRule a v d (rule v d))
 
--- taken apart
-fair-entry : (v d e : ℕ) → T (both (eqb e (rule v d)) (both (ltb e 216) (both (by-rule 0 v d e) (both (by-rule 1 v d e) (by-rule 2 v d e)))))
-    → (e ≡ rule v d) × (e < 216) × EachAxis (λ a. ByRule a v d e)
-fair-entry v d e t = (
-  eqb→eq _ _ (both-left (eqb e (rule v d)) _ t),
-  ltb→lt _ _ (both-left (ltb e 216) _ t1),
-  each-axis _
-      (by-rule-is 0 v d e (both-left (by-rule 0 v d e) _ t2))
-      (by-rule-is 1 v d e (both-left (by-rule 1 v d e) _ (both-right (by-rule 0 v d e) _ t2)))
-      (by-rule-is 2 v d e (both-right (by-rule 1 v d e) _ (both-right (by-rule 0 v d e) _ t2))),
-)
-  where
-    t1 : T (both (ltb e 216) (both (by-rule 0 v d e) (both (by-rule 1 v d e) (by-rule 2 v d e))))
-    t1 = both-right (eqb e (rule v d)) _ t
-
-    t2 : T (both (by-rule 0 v d e) (both (by-rule 1 v d e) (by-rule 2 v d e)))
-    t2 = both-right (ltb e 216) _ t1
-
-tested : (k : ℕ) → k < 216 → T (right k (getD rules k 0))
-unfolding right by-rule under rule
-tested k h = at right rules tt k h
-
 pub fair : (v d : ℕ) → v < 8 → d < 27 → Fair v d
-unfolding right
-fair v d hv hd =
-    let p : (v * 27 + d) / 27 ≡ v = omega arith in
-    let q : (v * 27 + d) % 27 ≡ d = omega arith in
-    let t = fair-entry v d (getD rules (v * 27 + d) 0) (rw (p, q) at (tested (v * 27 + d) (omega arith))) in
-    let e = t .0 in
-    record {
-      printed = e;
-      small = rw e at (t .1);
-      axis = rw e at (t .2);
-    }
+unfolding under rule
+fair v d hv hd = record {
+  printed = eqb→eq _ _ (at2 (λ v d. eqb (getD rules (v * 27 + d) 0) (rule v d)) 8 27 tt v d hv hd);
+  small = ltb→lt _ _ (at2 (λ v d. ltb (rule v d) 216) 8 27 tt v d hv hd);
+  axis = λ a h. record {
+    label = eqb→eq _ _ (at3 (λ a v d. eqb (rule v d % 8 / 2 ^ a % 2) (flips (v / 2 ^ a % 2) (d / 3 ^ a % 3))) 3 8 27 tt a v d h hv hd);
+    carry = eqb→eq _ _ (at3 (λ a v d. eqb (rule v d / 8 / 3 ^ a % 3) (carries (v / 2 ^ a % 2) (d / 3 ^ a % 3))) 3 8 27 tt a v d h hv hd);
+  };
+}
 
 -- no step changes nothing
-still-test : ℕ → ℕ → Bool
-still-test v x = eqb (rule v 0) v
-
 pub rule-still : (v : ℕ) → v < 8 → rule v 0 ≡ v
-unfolding still-test under rule
-rule-still v h = eqb→eq (rule v 0) v (at still-test (0 ∷ 0 ∷ 0 ∷ 0 ∷ 0 ∷ 0 ∷ 0 ∷ 0 ∷ []) tt v h)
+unfolding under rule
+rule-still v h = eqb→eq (rule v 0) v (at (λ v. eqb (rule v 0) v) 8 tt v h)
 
 -- ---- the rule as an equation of numbers
 
@@ -109,15 +59,7 @@ forth s = (s + 1) % 3
 
 -- the bit and the step are the new bit and two times the carry; one is added to each step, so that none is below 0
 rule-sums : (h s : ℕ) → h < 2 → s < 3 → h + forth s + 1 ≡ flips h s + 2 * forth (carries h s)
-rule-sums zero zero a b = refl
-rule-sums zero (suc zero) a b = refl
-rule-sums zero (suc (suc zero)) a b = refl
-rule-sums (suc zero) zero a b = refl
-rule-sums (suc zero) (suc zero) a b = refl
-rule-sums (suc zero) (suc (suc zero)) a b = refl
-rule-sums zero (suc (suc (suc s))) a b = absurd (omega arith)
-rule-sums (suc zero) (suc (suc (suc s))) a b = absurd (omega arith)
-rule-sums (suc (suc h)) s a b = absurd (omega arith)
+rule-sums h s a b = eqb→eq _ _ (at2 (λ h s. eqb (h + forth s + 1) (flips h s + 2 * forth (carries h s))) 2 3 tt h s a b)
 
 pub turn : (a v d : ℕ) → a < 3 → v < 8 → d < 27
     → v / 2 ^ a % 2 + forth (d / 3 ^ a % 3) + 1 ≡ rule v d % 8 / 2 ^ a % 2 + 2 * forth (rule v d / 8 / 3 ^ a % 3)

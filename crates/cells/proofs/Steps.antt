@@ -1,12 +1,12 @@
 -- Labels worked out by document 001's rules, from the last to the first: where the cell comes to stand along each axis. Assumes nothing.
 use mathlib.Core.Path.{_≡_, refl, ap, _∙_}
 use Prim.Native.Nat.{ℕ, zero, suc, _+_, _*_, _/_, _%_, _^_, _<_, zero-le, suc-le-suc}
-use native.Mathlib.Nat.{mul-one, mul-left-comm}
+use native.Mathlib.Nat.{mul-one}
 use native.Mathlib.Omega.{arith}
 use Rattle.cells.specs.Place.{along}
 use Rattle.cells.specs.Payeur.{rule, stepped, carried}
 use Rattle.cells.proofs.Power.{pow2-suc, pow8-suc}
-use Rattle.cells.proofs.Places.{along-step}
+use Rattle.cells.proofs.Places.{along-carry}
 use Rattle.cells.proofs.Rules.{forth, turn, fair, rule-still}
 
 -- ---- ranges
@@ -49,5 +49,4 @@ steps a ha (suc k) v d h =
     let e : ℕ = rule (v % 8) d in
     let ih = steps a ha k (v / 8) (e / 8) (omega (arith, fair (v % 8) d (omega arith) h .small)) in
     let f : ℕ = forth (carried k (v / 8) (e / 8) / 3 ^ a % 3) in
-    let top : f * 2 ^ suc k ≡ 2 * (f * 2 ^ k) = ap (λ (x : ℕ). f * x) (pow2-suc k) ∙ mul-left-comm f 2 (2 ^ k) in
-    omega (arith, ih, turn a (v % 8) d ha (omega arith) h, pow2-suc k, top, along-step (2 ^ a) k (stepped k (v / 8) (e / 8)) (e % 8) (omega arith))
+    omega (arith, ih, turn a (v % 8) d ha (omega arith) h, pow2-suc k, along-carry (2 ^ a) k (stepped k (v / 8) (e / 8)) (e % 8) f (omega arith))

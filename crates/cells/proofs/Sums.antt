@@ -8,16 +8,16 @@ use native.Mathlib.Nat.{mul-left-comm, mod-eq-of-lt, add-mul-mod-self-right}
 use native.Mathlib.Omega.{arith}
 use mathlib.Core.Logic.{_⊎_, inl, inr}
 use borrow.Author.Tests.{eq-eqb, ne-eqb, lt-ltb, le-ltb}
-use lib.Dec.{T, eqb, ltb, eqb→eq, ltb→lt}
+use lib.Dec.{eqb, ltb, eqb→eq, ltb→lt}
 use lib.IntN.{ℤ, pos, negsuc}
 use lib.ListN.{getD}
 use Rattle.cells.specs.Labels.{flips, carries}
 use Rattle.cells.specs.AhujaNash.{table2, plus, added, twos, summed}
-use Rattle.cells.specs.Place.{along, Displaced, Came}
+use Rattle.cells.specs.Place.{EachAxis, along, Displaced, Came}
 use Rattle.cells.proofs.Integers.{above, below, add-is}
 use Rattle.cells.proofs.Power.{le-or-lt, pow2-suc, pow8-suc}
-use Rattle.cells.proofs.Places.{each-axis, along-step, along-lt, same-voxel}
-use Rattle.cells.proofs.Table.{both, both-left, both-right, at}
+use Rattle.cells.proofs.Places.{along-carry, along-step, along-lt, same-voxel}
+use Rattle.cells.proofs.Table.{at, at2, at3}
 
 -- ---- the table's rule, over the whole table
 
@@ -36,54 +36,14 @@ unit false = 0
 pub record UnitStep (a v : ℕ) : Type 0 where
   pub label : entry a v % 10 < 8
   pub carry : entry a v / 10 ≡ carries (bit a v) 1
-  pub bits : (b : ℕ) → b < 3 → bit b (entry a v % 10) ≡ flips (bit b v) (unit (eqb a b))
-
-bit-test : ℕ → ℕ → ℕ → Bool
-bit-test a v b = eqb (bit b (entry a v % 10)) (flips (bit b v) (unit (eqb a b)))
-
--- the test of axis j / 8 and label j % 8
-unit-test : ℕ → ℕ → Bool
-unit-test j x =
-    both (ltb (entry (j / 8) (j % 8) % 10) 8)
-    (both (eqb (entry (j / 8) (j % 8) / 10) (carries (bit (j / 8) (j % 8)) 1))
-    (both (bit-test (j / 8) (j % 8) 0)
-    (both (bit-test (j / 8) (j % 8) 1)
-    (bit-test (j / 8) (j % 8) 2))))
-
-all-entries : List ℕ
-all-entries =
-    0 ∷ 0 ∷ 0 ∷ 0 ∷ 0 ∷ 0 ∷ 0 ∷ 0 ∷ 0 ∷ 0 ∷ 0 ∷ 0 ∷ 0 ∷ 0 ∷ 0 ∷ 0 ∷ 0 ∷ 0 ∷ 0 ∷ 0 ∷ 0 ∷ 0 ∷ 0 ∷ 0 ∷ []
-
-unit-entry : (a v : ℕ)
-    → T (both (ltb (entry a v % 10) 8) (both (eqb (entry a v / 10) (carries (bit a v) 1)) (both (bit-test a v 0) (both (bit-test a v 1) (bit-test a v 2)))))
-    → UnitStep a v
-unfolding bit-test
-unit-entry a v t = record {
-  label = ltb→lt _ _ (both-left (ltb (entry a v % 10) 8) _ t);
-  carry = eqb→eq _ _ (both-left (eqb (entry a v / 10) (carries (bit a v) 1)) _ t1);
-  bits =
-      each-axis _
-      (eqb→eq _ _ (both-left (bit-test a v 0) _ t2))
-      (eqb→eq _ _ (both-left (bit-test a v 1) _ (both-right (bit-test a v 0) _ t2)))
-      (eqb→eq _ _ (both-right (bit-test a v 1) _ (both-right (bit-test a v 0) _ t2)));
-}
-  where
-    t1 : T (both (eqb (entry a v / 10) (carries (bit a v) 1)) (both (bit-test a v 0) (both (bit-test a v 1) (bit-test a v 2))))
-    t1 = both-right (ltb (entry a v % 10) 8) _ t
-
-    t2 : T (both (bit-test a v 0) (both (bit-test a v 1) (bit-test a v 2)))
-    t2 = both-right (eqb (entry a v / 10) (carries (bit a v) 1)) _ t1
-
-tested : (j : ℕ) → j < 24 → T (unit-test j (getD all-entries j 0))
-unfolding unit-test bit-test all-entries
-tested j h = at unit-test all-entries tt j h
+  pub bits : EachAxis (λ b. bit b (entry a v % 10) ≡ flips (bit b v) (unit (eqb a b)))
 
 pub unit-step : (a v : ℕ) → a < 3 → v < 8 → UnitStep a v
-unfolding unit-test
-unit-step a v ha hv =
-    let p : (8 * a + v) / 8 ≡ a = omega arith in
-    let q : (8 * a + v) % 8 ≡ v = omega arith in
-    unit-entry a v (rw (p, q) at (tested (8 * a + v) (omega arith)))
+unit-step a v ha hv = record {
+  label = ltb→lt _ _ (at2 (λ a v. ltb (entry a v % 10) 8) 3 8 tt a v ha hv);
+  carry = eqb→eq _ _ (at2 (λ a v. eqb (entry a v / 10) (carries (bit a v) 1)) 3 8 tt a v ha hv);
+  bits = λ b h. eqb→eq _ _ (at3 (λ a v b. eqb (bit b (entry a v % 10)) (flips (bit b v) (unit (eqb a b)))) 3 8 3 tt a v b ha hv h);
+}
 
 -- ---- one axis
 
@@ -92,13 +52,11 @@ module _ (a : ℕ) (axis : a < 3) where
   record Plus (v t : ℕ) : Type 0 where
     label : plus a v t % 10 < 8
     moved : bit a (plus a v t % 10) + 2 * (plus a v t / 10) ≡ bit a v + t
-    kept : (b : ℕ) → b < 3 → (a ≡ b → ⊥) → bit b (plus a v t % 10) ≡ bit b v
+    kept : EachAxis (λ b. (a ≡ b → ⊥) → bit b (plus a v t % 10) ≡ bit b v)
 
   -- flips and carries of a bit, as a sum
   as-sum : (h : ℕ) → h < 2 → flips h 1 + 2 * carries h 1 ≡ h + 1
-  as-sum zero l = refl
-  as-sum (suc zero) l = refl
-  as-sum (suc (suc h)) l = absurd (omega arith)
+  as-sum h l = eqb→eq _ _ (at (λ h. eqb (flips h 1 + 2 * carries h 1) (h + 1)) 2 tt h l)
 
   plus-is : (v t : ℕ) → v < 8 → t ≤ 1 → Plus v t
   unfolding plus
@@ -127,7 +85,7 @@ module _ (a : ℕ) (axis : a < 3) where
     label : last v t c % 10 < 8
     carry : out v t c ≤ 1
     moved : bit a (last v t c % 10) + 2 * out v t c ≡ bit a v + t + c
-    kept : (b : ℕ) → b < 3 → (a ≡ b → ⊥) → bit b (last v t c % 10) ≡ bit b v
+    kept : EachAxis (λ b. (a ≡ b → ⊥) → bit b (last v t c % 10) ≡ bit b v)
 
   twice : (v t c : ℕ) → v < 8 → t ≤ 1 → c ≤ 1 → Twice v t c
   twice v t c h ht hc =
@@ -154,9 +112,7 @@ module _ (a : ℕ) (axis : a < 3) where
   added-sum (suc n) v t c h =
       let T = twice (v % 8) (t % 2) c (omega arith) (omega arith) h in
       let (l, ih) = added-sum n (v / 8) (t / 2) (out (v % 8) (t % 2) c) (T .carry) in
-      let e = along-step (2 ^ a) n (added a n (v / 8) (t / 2) (out (v % 8) (t % 2) c)) (last (v % 8) (t % 2) c % 10) (T .label) in
-      let u : l * 2 ^ suc n ≡ 2 * (l * 2 ^ n) = ap (λ (x : ℕ). l * x) (pow2-suc n) ∙ mul-left-comm l 2 (2 ^ n) in
-      (l, omega (arith, ih, e, u, T .moved))
+      (l, omega (arith, ih, along-carry (2 ^ a) n (added a n (v / 8) (t / 2) (out (v % 8) (t % 2) c)) (last (v % 8) (t % 2) c % 10) l (T .label), T .moved))
 
   -- so it is the sum modulo 2 ^ n
   pub added-mod : (n v t : ℕ) → along (2 ^ a) n (added a n v t 0) ≡ (along (2 ^ a) n v + t) % 2 ^ n

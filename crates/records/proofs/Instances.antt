@@ -73,7 +73,7 @@ unfolding topBit level proper index span start early allFrom eightAt fault
 check-refuses = inr (passes (λ h. omega arith), inl (_, (7, record { below = lit< tt; here = λ e. omega arith; before = before }, refl), refl))
   where
     before : (j : ℕ) → j < 7 → (fault 1 eight j ≡ 0 → ⊥) → ⊥
-    before j h bad = bad (eqb→eq _ _ (at (λ i x. eqb (fault 1 eight i) 0) (8 ∷ 9 ∷ 10 ∷ 11 ∷ 12 ∷ 13 ∷ 14 ∷ []) tt j h))
+    before j h bad = bad (eqb→eq _ _ (at (λ i. eqb (fault 1 eight i) 0) 7 tt j h))
 
 pub check-takes-none : CheckOf 1 eight (given 8) → ⊥
 check-takes-none h = let e : _≡_ {A = ℕ} 0 4 = ap (λ (r : Answer). r .number) (one-check 1 eight _ _ h check-refuses) in omega arith
