@@ -135,18 +135,22 @@ along-last a h k (suc n) i =
     rw (add-suc k n, e)
     (omega (arith, along-step (2 ^ a) (k + n) v 7 (omega arith), all-bits a h, along-last a h k n i, pow2-suc n, ap (λ (x : ℕ). along (2 ^ a) k i * x) (pow2-suc n)))
 
--- ---- the definitions' step as the code takes it, at n > 0
+-- ---- the definitions as the code takes them: none at 0, and a step at n > 0
+
+pub along-none : (b n v : ℕ) → n ≡ 0 → 0 ≡ along b n v
+unfolding along
+along-none b n v e = rw e
 
 pub along-rec : (b n v : ℕ) → 0 < n → 2 * along b (n - 1) (v / 8) + v % 8 / b % 2 ≡ along b n v
 unfolding along
 along-rec b zero v h = absurd (omega arith)
-along-rec b (suc n) v h =
-    let e : suc n - 1 ≡ n = omega arith in
-    rw e
+along-rec b (suc n) v h = let e : suc n - 1 ≡ n = omega arith in rw e
+
+pub number-none : (n x y z : ℕ) → n ≡ 0 → 0 ≡ number n x y z
+unfolding number
+number-none n x y z e = rw e
 
 pub number-rec : (n x y z : ℕ) → 0 < n → 8 * number (n - 1) (x / 2) (y / 2) (z / 2) + (x % 2 + 2 * (y % 2) + 4 * (z % 2)) ≡ number n x y z
 unfolding number
 number-rec zero x y z h = absurd (omega arith)
-number-rec (suc n) x y z h =
-    let e : suc n - 1 ≡ n = omega arith in
-    rw e
+number-rec (suc n) x y z h = let e : suc n - 1 ≡ n = omega arith in rw e
