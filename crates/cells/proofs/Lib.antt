@@ -13,7 +13,6 @@ pub mod Levels
 pub mod Words
 pub mod Places
 pub mod CornerLaws
-pub mod Views
 -- displaced places and voxels
 pub mod Displacements
 -- document 001: the rules, labels worked out by them, the loop, directions, the neighbour
@@ -22,6 +21,7 @@ pub mod Steps
 pub mod Carries
 pub mod Directions
 pub mod NeighbourLaws
+pub mod Views
 -- document 000: table 2 and its sums
 pub mod Sums
 -- what follows of the calls, and instances

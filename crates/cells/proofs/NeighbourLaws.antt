@@ -3,11 +3,11 @@ use mathlib.Core.Path.{_≡_, refl, sym, ap, _∙_, subst}
 use mathlib.Core.Bool.{true}
 use mathlib.Core.List.{[], _∷_}
 use Prim.Native.Nat.{ℕ, zero, suc, _+_, _-_, _*_, _/_, _%_, _^_, _<_}
-use native.Mathlib.Nat.{add-mul, eq-of-mul-eq-mul-right, one-mul, zero-div, mod-eq-of-lt}
+use native.Mathlib.Nat.{one-mul, zero-div, mod-eq-of-lt}
 use native.Mathlib.Omega.{arith}
-use lib.IntN.{ℤ, pos, _+ℤ_, _*ℤ_}
+use lib.IntN.{ℤ}
 use Rattle.cells.specs.Cell.{level, proper, index, side}
-use Rattle.cells.specs.Place.{EachAxis, along, corner, Displaced}
+use Rattle.cells.specs.Place.{EachAxis, along, corner}
 use Rattle.cells.specs.Answer.{given, alone, deepest, TooDeep}
 use Rattle.cells.specs.declared.Answer.{Answer}
 use Rattle.cells.specs.Corners.{NoCell}
@@ -18,26 +18,11 @@ use Rattle.cells.proofs.Decisions.{One, one-given, one-refuses, one-dec
 use Rattle.cells.proofs.Cells.{level-le}
 use Rattle.cells.proofs.CornerLaws.{side-pos, cell-at, one-cell}
 use Rattle.cells.proofs.Directions.{forth-step}
-use Rattle.cells.proofs.Integers.{above, below, same, add-is, above-times, below-times}
+use Rattle.cells.proofs.Displacements.{displaced→, →displaced}
+use Rattle.cells.proofs.Integers.{above, below}
 use Rattle.cells.proofs.Places.{along-lt}
 use Rattle.cells.proofs.Rules.{forth}
 use Rattle.cells.proofs.Steps.{steps, stepped-lt, carried-lt}
-
--- ---- a displacement by whole sides, as natural numbers
-
-module _ (z : ℤ) (s a a' : ℕ) where
-  pub displaced→ : 0 < s → Displaced (z *ℤ pos s) (a * s) (a' * s) → a + above z ≡ a' + below z
-  displaced→ h e =
-      let u = add-is (pos (a * s)) (z *ℤ pos s) in
-      let p : above (pos (a * s) +ℤ z *ℤ pos s) ≡ a' * s = ap above e in
-      let q : below (pos (a * s) +ℤ z *ℤ pos s) ≡ 0 = ap below e in
-      let w : (a + above z) * s ≡ (a' + below z) * s = omega (arith, u, p, q, above-times z s, below-times z s, add-mul a (above z) s, add-mul a' (below z) s) in
-      eq-of-mul-eq-mul-right s h _ _ w
-
-  pub →displaced : a + above z ≡ a' + below z → Displaced (z *ℤ pos s) (a * s) (a' * s)
-  →displaced e =
-      let w : (a + above z) * s ≡ (a' + below z) * s = ap (λ (n : ℕ). n * s) e in
-      same (pos (a * s) +ℤ z *ℤ pos s) (pos (a' * s)) (omega (arith, w, add-is (pos (a * s)) (z *ℤ pos s), above-times z s, below-times z s, add-mul a (above z) s, add-mul a' (below z) s))
 
 -- ---- one axis
 

@@ -1,9 +1,9 @@
 -- The neighbour rules of document 001, proved once over the whole table by a test that antt computes: each entry of the code's table is the printed one, and
 -- is the rule of document 01 on each axis. An axis is a number a below 3: x, y, z. Its bit in a label is 2 ^ a, its digit in a direction has the weight 3 ^ a.
 -- Assumes nothing.
-use mathlib.Core.Path.{_≡_, refl}
+use mathlib.Core.Path.{_≡_}
 use mathlib.Core.List.{List, [], _∷_}
-use Prim.Native.Nat.{ℕ, zero, suc, _+_, _*_, _/_, _%_, _^_, _<_}
+use Prim.Native.Nat.{ℕ, _+_, _*_, _/_, _%_, _^_, _<_}
 use native.Mathlib.Omega.{arith}
 use lib.Dec.{eqb, ltb, eqb→eq, ltb→lt}
 use lib.ListN.{getD}

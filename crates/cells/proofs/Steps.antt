@@ -1,5 +1,5 @@
 -- Labels worked out by document 001's rules, from the last to the first: where the cell comes to stand along each axis. Assumes nothing.
-use mathlib.Core.Path.{_≡_, refl, ap, _∙_}
+use mathlib.Core.Path.{_≡_, refl}
 use Prim.Native.Nat.{ℕ, zero, suc, _+_, _*_, _/_, _%_, _^_, _<_, zero-le, suc-le-suc}
 use native.Mathlib.Nat.{mul-one}
 use native.Mathlib.Omega.{arith}

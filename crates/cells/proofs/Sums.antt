@@ -2,9 +2,9 @@
 -- displaced voxel's path. An axis is a number a below 3: x, y, z; its bit in a label is 2 ^ a. Assumes nothing.
 use mathlib.Core.Path.{_≡_, refl, sym, ap, _∙_}
 use mathlib.Core.Bool.{Bool, true, false}
-use mathlib.Core.List.{List, [], _∷_}
+use mathlib.Core.List.{[]}
 use Prim.Native.Nat.{ℕ, zero, suc, _+_, _-_, _*_, _/_, _%_, _^_, _<_, _≤_, zero-le, suc-le-suc}
-use native.Mathlib.Nat.{mul-left-comm, mod-eq-of-lt, add-mul-mod-self-right}
+use native.Mathlib.Nat.{mod-eq-of-lt, add-mul-mod-self-right}
 use native.Mathlib.Omega.{arith}
 use mathlib.Core.Logic.{_⊎_, inl, inr}
 use borrow.Author.Tests.{eq-eqb, ne-eqb, lt-ltb, le-ltb}
@@ -14,8 +14,8 @@ use lib.ListN.{getD}
 use Rattle.cells.specs.Labels.{flips, carries}
 use Rattle.cells.specs.AhujaNash.{table2, plus, added, twos, summed}
 use Rattle.cells.specs.Place.{EachAxis, along, Displaced, Came}
-use Rattle.cells.proofs.Integers.{above, below, add-is}
-use Rattle.cells.proofs.Power.{le-or-lt, pow2-suc, pow8-suc}
+use Rattle.cells.proofs.Displacements.{displaced-parts}
+use Rattle.cells.proofs.Power.{le-or-lt, pow8-suc}
 use Rattle.cells.proofs.Places.{along-carry, along-step, along-lt, same-voxel}
 use Rattle.cells.proofs.Table.{at, at2, at3}
 
@@ -133,17 +133,14 @@ module _ (a : ℕ) (axis : a < 3) where
 
 -- ---- a displaced coordinate that lies in the root is the sum with the two's complement, what is lost dropped
 
-displaced-sum : (d : ℤ) (x x' : ℕ) → Displaced d x x' → x + above d ≡ x' + below d
-displaced-sum d x x' e = omega (arith, add-is (pos x) d, ap above e, ap below e)
-
 pub twos-sum : (n : ℕ) (d : ℤ) (x x' : ℕ) → x < 2 ^ n → x' < 2 ^ n → Displaced d x x' → (x + twos n d) % 2 ^ n ≡ x'
 unfolding twos
 twos-sum n (pos m) x x' h h' e =
-    let s = displaced-sum (pos m) x x' e in
+    let s = displaced-parts (pos m) x x' .0 e in
     let k : m % 2 ^ n ≡ m = mod-eq-of-lt (omega arith) in
     rw k (ap (λ (y : ℕ). y % 2 ^ n) s ∙ ap (λ (y : ℕ). y % 2 ^ n) (omega arith) ∙ mod-eq-of-lt h')
 twos-sum n (negsuc m) x x' h h' e =
-    let s = displaced-sum (negsuc m) x x' e in
+    let s = displaced-parts (negsuc m) x x' .0 e in
     let k : m % 2 ^ n ≡ m = mod-eq-of-lt (omega arith) in
     let t : x + (2 ^ n - 1 - m) ≡ x' + 1 * 2 ^ n = omega arith in
     rw (k, t) (add-mul-mod-self-right x' 1 (2 ^ n) ∙ mod-eq-of-lt h')

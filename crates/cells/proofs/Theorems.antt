@@ -8,7 +8,7 @@ use native.Mathlib.Nat.{mul-le-mul-right, mul-mod-left, add-sub-of-le, add-mul, 
 use native.Mathlib.Omega.{arith}
 use lib.Pow.{pow-add}
 use borrow.Author.Tests.{le-leb, lt-ltb}
-use lib.IntN.{ℤ, pos, negsuc, negℤ, _+ℤ_, _*ℤ_}
+use lib.IntN.{ℤ, pos, negsuc, negℤ, _*ℤ_}
 use Rattle.cells.specs.Cell.{level, proper, index, side}
 use Rattle.cells.specs.Place.{allAxes, along, corner, Displaced}
 use Rattle.cells.specs.Answer.{given, deepest}
@@ -19,8 +19,8 @@ use Rattle.cells.proofs.Decisions.{passes, deep-enough}
 use Rattle.cells.proofs.Cells.{level-le, level-is}
 use Rattle.cells.proofs.Bools.{both-true}
 use Rattle.cells.proofs.CornerLaws.{side-pos}
-use Rattle.cells.proofs.Integers.{above, below, same, add-is, above-times, below-times}
-use Rattle.cells.proofs.NeighbourLaws.{displaced→}
+use Rattle.cells.proofs.Integers.{above, below}
+use Rattle.cells.proofs.Displacements.{displaced→, displaced-back}
 use Rattle.cells.proofs.Places.{all-true, along-lt}
 
 -- ---- the corner of a cell is a proper corner, and gives the cell's code
@@ -44,25 +44,6 @@ there-and-back D c h p =
     inr (passes (deep-enough h), inr (passes (clash g), (c, record { is-proper = p; is-level = refl; each = λ a h. refl }, refl)))
 
 -- ---- the step back
-
-above-negated : (z : ℤ) → above (negℤ z) ≡ below z
-above-negated (pos zero) = refl
-above-negated (pos (suc n)) = refl
-above-negated (negsuc n) = refl
-
-below-negated : (z : ℤ) → below (negℤ z) ≡ above z
-below-negated (pos zero) = refl
-below-negated (pos (suc n)) = refl
-below-negated (negsuc n) = refl
-
-displaced-back : (z : ℤ) (s x y : ℕ) → Displaced (z *ℤ pos s) x y → Displaced (negℤ z *ℤ pos s) y x
-displaced-back z s x y e =
-    let u = add-is (pos x) (z *ℤ pos s) in
-    let p : above (pos x +ℤ z *ℤ pos s) ≡ y = ap above e in
-    let q : below (pos x +ℤ z *ℤ pos s) ≡ 0 = ap below e in
-    let a : above (negℤ z *ℤ pos s) ≡ below z * s = above-times (negℤ z) s ∙ ap (λ (m : ℕ). m * s) (above-negated z) in
-    let b : below (negℤ z *ℤ pos s) ≡ above z * s = below-times (negℤ z) s ∙ ap (λ (m : ℕ). m * s) (below-negated z) in
-    same (pos y +ℤ negℤ z *ℤ pos s) (pos x) (omega (arith, u, p, q, above-times z s, below-times z s, a, b, add-is (pos y) (negℤ z *ℤ pos s)))
 
 pub step-back : (D c m : ℕ) (d : ℕ → ℤ) → proper D c ≡ true → Neighbour D c d m → Neighbour D m (λ a. negℤ (d a)) c
 unfolding side

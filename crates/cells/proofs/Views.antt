@@ -4,16 +4,15 @@ use mathlib.Core.Path.{_≡_, sym, ap, _∙_, subst}
 use mathlib.Core.Bool.{true}
 use Prim.Native.Nat.{ℕ, _+_, _-_, _*_, _/_, _%_, _^_, _<_, _≤_}
 use native.Mathlib.Nat.{div-add-mod', mod-lt, add-sub-of-le, add-mul-div-right, div-eq-of-lt, div-lt-iff-lt-mul}
-use lib.IntN.{ℤ, pos, _+ℤ_, _*ℤ_}
+use lib.IntN.{ℤ, pos, _*ℤ_}
 use native.Mathlib.Omega.{arith}
 use lib.Dec.{leb, ltb}
 use lib.Pow.{pow-add}
 use borrow.Author.Tests.{leb-true, ltb-true, le-leb, lt-ltb}
 use Rattle.cells.specs.Cell.{level, proper, index, side, start, span, holds}
-use Rattle.cells.specs.Place.{EachAxis, along, corner, Displaced, Came}
+use Rattle.cells.specs.Place.{EachAxis, along, corner, Came}
 use Rattle.cells.specs.Neighbour.{Neighbour}
-use Rattle.cells.proofs.Integers.{above, below, add-is, above-times, below-times}
-use Rattle.cells.proofs.NeighbourLaws.{displaced→}
+use Rattle.cells.proofs.Displacements.{displaced→, displaced-sides}
 use Rattle.cells.proofs.Power.{pow8-pos}
 use Rattle.cells.proofs.Cells.{level-le}
 use Rattle.cells.proofs.Bools.{both-true}
@@ -68,15 +67,6 @@ module _ (D c : ℕ) (p : proper D c ≡ true) where
 
 -- ---- the neighbour by its voxels: each voxel of the cell, displaced by the cell's side, is one of the neighbour's
 
--- a coordinate displaced by whole sides, in sides
-in-sides : (z : ℤ) (s x x' : ℕ) → 0 < s → Displaced (z *ℤ pos s) x x' → x / s + above z ≡ x' / s + below z
-in-sides z s x x' h e =
-    let u = add-is (pos x) (z *ℤ pos s) in
-    let p : above (pos x +ℤ z *ℤ pos s) ≡ x' = ap above e in
-    let q : below (pos x +ℤ z *ℤ pos s) ≡ 0 = ap below e in
-    let w : x + above z * s ≡ x' + below z * s = omega (arith, u, p, q, above-times z s, below-times z s) in
-    sym (add-mul-div-right x (above z) h) ∙ ap (λ (m : ℕ). m / s) w ∙ add-mul-div-right x' (below z) h
-
 module _ (D c m : ℕ) (d : ℕ → ℤ) (p : proper D c ≡ true) (next : Neighbour D c d m) where
   pub neighbour-voxels : (u v : ℕ) → holds D c u ≡ true → Came D (λ a. d a *ℤ pos (side D c)) u v → holds D m v ≡ true
   unfolding corner side
@@ -88,5 +78,5 @@ module _ (D c m : ℕ) (d : ℕ → ℤ) (p : proper D c ≡ true) (next : Neigh
           let same = next .same-level in
           let s : ℕ = side D c in
           let by = displaced→ (d a) s (along (2 ^ a) (level D c) (index D c)) (along (2 ^ a) (level D c) (index D m)) (side-pos D c) (rw same at (next .each a l)) in
-          let q = in-sides (d a) s (along (2 ^ a) D u) (along (2 ^ a) D v) (side-pos D c) (came .each a l) in
+          let q = displaced-sides (d a) s (along (2 ^ a) D u) (along (2 ^ a) D v) (side-pos D c) (came .each a l) in
           rw same (omega (arith, by, q, cube D c p (2 ^ a) u h))
