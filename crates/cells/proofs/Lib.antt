@@ -22,7 +22,8 @@ pub mod Carries
 pub mod Directions
 pub mod NeighbourLaws
 pub mod Views
--- document 000: table 2 and its sums
+-- document 000: two's complements, table 2 and its sums
+pub mod Congruent
 pub mod Sums
 -- what follows of the calls, and instances
 pub mod Theorems

@@ -1,23 +1,22 @@
 -- Document 000's table 2: each entry is the unit step of document 01's rule, and adding a displacement to a path by the table, the last carry dropped, gives the
 -- displaced voxel's path. An axis is a number a below 3: x, y, z; its bit in a label is 2 ^ a. Assumes nothing.
-use mathlib.Core.Path.{_≡_, refl, sym, ap, _∙_}
+use mathlib.Core.Path.{_≡_, refl, _∙_}
 use mathlib.Core.Bool.{Bool, true, false}
 use mathlib.Core.List.{[]}
-use Prim.Native.Nat.{ℕ, zero, suc, _+_, _-_, _*_, _/_, _%_, _^_, _<_, _≤_, zero-le, suc-le-suc}
-use native.Mathlib.Nat.{mod-eq-of-lt, add-mul-mod-self-right}
+use Prim.Native.Nat.{ℕ, zero, suc, _+_, _*_, _/_, _%_, _^_, _<_, zero-le, suc-le-suc}
+use native.Mathlib.Nat.{add-mul}
 use native.Mathlib.Omega.{arith}
-use mathlib.Core.Logic.{_⊎_, inl, inr}
-use borrow.Author.Tests.{eq-eqb, ne-eqb, lt-ltb, le-ltb}
 use lib.Dec.{eqb, ltb, eqb→eq, ltb→lt}
 use lib.IntN.{ℤ, pos, negsuc}
 use lib.ListN.{getD}
 use Rattle.cells.specs.Labels.{flips, carries}
 use Rattle.cells.specs.AhujaNash.{table2, plus, added, twos, summed}
-use Rattle.cells.specs.Place.{EachAxis, along, Displaced, Came}
+use Rattle.cells.specs.Place.{EachAxis, along, Came}
+use Rattle.cells.proofs.Power.{pow8-suc}
+use Rattle.cells.proofs.Places.{each-axis, along-carry, along-lt, same-voxel}
+use Rattle.cells.proofs.Table.{everywhere, at, at2, at3, at4}
+use Rattle.cells.proofs.Congruent.{congruent-equal, twos-congruent}
 use Rattle.cells.proofs.Displacements.{displaced-parts}
-use Rattle.cells.proofs.Power.{le-or-lt, pow8-suc}
-use Rattle.cells.proofs.Places.{along-carry, along-step, along-lt, same-voxel}
-use Rattle.cells.proofs.Table.{at, at2, at3}
 
 -- ---- the table's rule, over the whole table
 
@@ -45,130 +44,87 @@ unit-step a v ha hv = record {
   bits = λ b h. eqb→eq _ _ (at3 (λ a v b. eqb (bit b (entry a v % 10)) (flips (bit b v) (unit (eqb a b)))) 3 8 3 tt a v b ha hv h);
 }
 
--- ---- one axis
+-- ---- a label, a bit t of the displacement along axis a, and a carry c: the new label and the carry out
+
+abbrev new : ℕ → ℕ → ℕ → ℕ → ℕ
+new a v t c = plus a (plus a v t % 10) c % 10
+
+abbrev out : ℕ → ℕ → ℕ → ℕ → ℕ
+out a v t c = plus a v t / 10 + plus a (plus a v t % 10) c / 10
+
+-- x on the axis of the displacement, nothing on the others
+abbrev on : Bool → ℕ → ℕ
+on true x = x
+on false x = 0
+
+record LabelSum (a v t c : ℕ) : Type 0 where
+  label : new a v t c < 8
+  carry : out a v t c < 2
+  bits : EachAxis (λ b. bit b (new a v t c) + 2 * on (eqb a b) (out a v t c) ≡ bit b v + on (eqb a b) (t + c))
+
+label-sum : (a v t c : ℕ) → a < 3 → v < 8 → t < 2 → c < 2 → LabelSum a v t c
+unfolding plus
+label-sum a v t c ha hv ht hc = record {
+  label = ltb→lt _ _ (at4 (λ a v t c. ltb (new a v t c) 8) 3 8 2 2 tt a v t c ha hv ht hc);
+  carry = ltb→lt _ _ (at4 (λ a v t c. ltb (out a v t c) 2) 3 8 2 2 tt a v t c ha hv ht hc);
+  bits = λ b h.
+      eqb→eq _ _
+      (at (λ b. eqb (bit b (new a v t c) + 2 * on (eqb a b) (out a v t c)) (bit b v + on (eqb a b) (t + c))) 3
+      (at4 (λ a v t c. everywhere (λ b. eqb (bit b (new a v t c) + 2 * on (eqb a b) (out a v t c)) (bit b v + on (eqb a b) (t + c))) 3) 3 8 2 2 tt a v t c ha hv ht hc) b h);
+}
+
+-- ---- all labels
 
 module _ (a : ℕ) (axis : a < 3) where
-  -- a label and a bit: on axis a the bit is added, with the carry counting 2; on any other axis nothing changes
-  record Plus (v t : ℕ) : Type 0 where
-    label : plus a v t % 10 < 8
-    moved : bit a (plus a v t % 10) + 2 * (plus a v t / 10) ≡ bit a v + t
-    kept : EachAxis (λ b. (a ≡ b → ⊥) → bit b (plus a v t % 10) ≡ bit b v)
-
-  -- flips and carries of a bit, as a sum
-  as-sum : (h : ℕ) → h < 2 → flips h 1 + 2 * carries h 1 ≡ h + 1
-  as-sum h l = eqb→eq _ _ (at (λ h. eqb (flips h 1 + 2 * carries h 1) (h + 1)) 2 tt h l)
-
-  plus-is : (v t : ℕ) → v < 8 → t ≤ 1 → Plus v t
-  unfolding plus
-  plus-is v zero h l =
-      let e : v % 10 ≡ v = mod-eq-of-lt (omega arith) in
-      let z : v / 10 ≡ 0 = omega arith in
-      record { label = omega arith; moved = rw (e, z) (omega arith); kept = λ b hb n. rw e }
-  plus-is v (suc zero) h l =
-      let u = unit-step a v axis h in
-      let f : bit a (entry a v % 10) ≡ flips (bit a v) 1 = u .bits a axis ∙ rw (eq-eqb a a refl) in
-      record {
-        label = u .label;
-        moved = rw (f, u .carry) (as-sum (bit a v) (omega arith));
-        kept = λ b hb n. u .bits b hb ∙ rw (ne-eqb a b n);
-      }
-  plus-is v (suc (suc t)) h l = absurd (omega arith)
-
-  -- a label, a bit and a carry: the carries of the two additions are at most 1 together
-  abbrev last : ℕ → ℕ → ℕ → ℕ
-  last v t c = plus a (plus a v t % 10) c
-
-  abbrev out : ℕ → ℕ → ℕ → ℕ
-  out v t c = plus a v t / 10 + last v t c / 10
-
-  record Twice (v t c : ℕ) : Type 0 where
-    label : last v t c % 10 < 8
-    carry : out v t c ≤ 1
-    moved : bit a (last v t c % 10) + 2 * out v t c ≡ bit a v + t + c
-    kept : EachAxis (λ b. (a ≡ b → ⊥) → bit b (last v t c % 10) ≡ bit b v)
-
-  twice : (v t c : ℕ) → v < 8 → t ≤ 1 → c ≤ 1 → Twice v t c
-  twice v t c h ht hc =
-      let P = plus-is v t h ht in
-      let Q = plus-is (plus a v t % 10) c (P .label) hc in
-      record {
-        label = Q .label;
-        carry = omega (arith, P .moved, Q .moved);
-        moved = omega (arith, P .moved, Q .moved);
-        kept = λ b hb n. Q .kept b hb n ∙ P .kept b hb n;
-      }
-
-  pub added-lt : (n v t c : ℕ) → c ≤ 1 → added a n v t c < 8 ^ n
+  pub added-lt : (n v t c : ℕ) → c < 2 → added a n v t c < 8 ^ n
   unfolding added
   added-lt zero v t c h = suc-le-suc zero-le
   added-lt (suc n) v t c h =
-      let T = twice (v % 8) (t % 2) c (omega arith) (omega arith) h in
-      omega (arith, pow8-suc n, added-lt n (v / 8) (t / 2) (out (v % 8) (t % 2) c) (T .carry), T .label)
+      let x = label-sum a (v % 8) (t % 2) c axis (omega arith) (omega arith) h in
+      omega (arith, pow8-suc n, added-lt n (v / 8) (t / 2) (out a (v % 8) (t % 2) c) (x .carry), x .label)
 
-  -- the sum along the axis, with what is lost out of the first label
-  added-sum : (n v t c : ℕ) → c ≤ 1 → (l : ℕ) × (along (2 ^ a) n (added a n v t c) + l * 2 ^ n ≡ along (2 ^ a) n v + t + c)
+  -- the displacement is added on its axis, less what is lost out of the first label, and the other coordinates stay
+  pub added-along : (b : ℕ) → b < 3 → (n v t c : ℕ) → c < 2 → (l : ℕ) × (along (2 ^ b) n (added a n v t c) + l * 2 ^ n ≡ along (2 ^ b) n v + on (eqb a b) (t + c))
   unfolding along added
-  added-sum zero v t c h = (t + c, omega arith)
-  added-sum (suc n) v t c h =
-      let T = twice (v % 8) (t % 2) c (omega arith) (omega arith) h in
-      let (l, ih) = added-sum n (v / 8) (t / 2) (out (v % 8) (t % 2) c) (T .carry) in
-      (l, omega (arith, ih, along-carry (2 ^ a) n (added a n (v / 8) (t / 2) (out (v % 8) (t % 2) c)) (last (v % 8) (t % 2) c % 10) l (T .label), T .moved))
-
-  -- so it is the sum modulo 2 ^ n
-  pub added-mod : (n v t : ℕ) → along (2 ^ a) n (added a n v t 0) ≡ (along (2 ^ a) n v + t) % 2 ^ n
-  added-mod n v t =
-      let (l, e) = added-sum n v t 0 (omega arith) in
-      let A : ℕ = along (2 ^ a) n (added a n v t 0) in
-      let e′ : A + l * 2 ^ n ≡ along (2 ^ a) n v + t = omega arith in
-      sym (mod-eq-of-lt (along-lt (2 ^ a) n (added a n v t 0))) ∙ sym (add-mul-mod-self-right A l (2 ^ n)) ∙ ap (λ (x : ℕ). x % 2 ^ n) e′
-
-  -- the other two coordinates stay
-  pub added-kept : (b : ℕ) → b < 3 → (a ≡ b → ⊥) → (n v t c : ℕ) → c ≤ 1 → along (2 ^ b) n (added a n v t c) ≡ along (2 ^ b) n v
-  unfolding along added
-  added-kept b hb ne zero v t c h = refl
-  added-kept b hb ne (suc n) v t c h =
-      let T = twice (v % 8) (t % 2) c (omega arith) (omega arith) h in
-      let e = along-step (2 ^ b) n (added a n (v / 8) (t / 2) (out (v % 8) (t % 2) c)) (last (v % 8) (t % 2) c % 10) (T .label) in
-      omega (arith, e, added-kept b hb ne n (v / 8) (t / 2) (out (v % 8) (t % 2) c) (T .carry), T .kept b hb ne)
-
--- ---- a displaced coordinate that lies in the root is the sum with the two's complement, what is lost dropped
-
-pub twos-sum : (n : ℕ) (d : ℤ) (x x' : ℕ) → x < 2 ^ n → x' < 2 ^ n → Displaced d x x' → (x + twos n d) % 2 ^ n ≡ x'
-unfolding twos
-twos-sum n (pos m) x x' h h' e =
-    let s = displaced-parts (pos m) x x' .0 e in
-    let k : m % 2 ^ n ≡ m = mod-eq-of-lt (omega arith) in
-    rw k (ap (λ (y : ℕ). y % 2 ^ n) s ∙ ap (λ (y : ℕ). y % 2 ^ n) (omega arith) ∙ mod-eq-of-lt h')
-twos-sum n (negsuc m) x x' h h' e =
-    let s = displaced-parts (negsuc m) x x' .0 e in
-    let k : m % 2 ^ n ≡ m = mod-eq-of-lt (omega arith) in
-    let t : x + (2 ^ n - 1 - m) ≡ x' + 1 * 2 ^ n = omega arith in
-    rw (k, t) (add-mul-mod-self-right x' 1 (2 ^ n) ∙ mod-eq-of-lt h')
+  added-along b h zero v t c k = (on (eqb a b) (t + c), omega arith)
+  added-along b h (suc n) v t c k =
+      let x = label-sum a (v % 8) (t % 2) c axis (omega arith) (omega arith) k in
+      let (l, ih) = added-along b h n (v / 8) (t / 2) (out a (v % 8) (t % 2) c) (x .carry) in
+      let e = along-carry (2 ^ b) n (added a n (v / 8) (t / 2) (out a (v % 8) (t % 2) c)) (new a (v % 8) (t % 2) c) l (x .label) in
+      (l, e ∙ go (eqb a b) _ (out a (v % 8) (t % 2) c) _ ih (x .bits b h))
+    where
+      -- one label's sum and that of the labels before it
+      go : (s : Bool) (A o B : ℕ) → A ≡ along (2 ^ b) n (v / 8) + on s (t / 2 + o) → B + 2 * on s o ≡ bit b (v % 8) + on s (t % 2 + c)
+          → 2 * A + B ≡ 2 * along (2 ^ b) n (v / 8) + bit b (v % 8) + on s (t + c)
+      go true A o B e f = omega arith
+      go false A o B e f = omega arith
 
 -- ---- THE LAW OF 000: where the displaced voxel lies in the root, adding the displacement by table 2, the last carry dropped, gives its path
 
 module _ (D : ℕ) (d : ℕ → ℤ) (u v : ℕ) (came : Came D d u v) where
-  -- after m axes, the coordinates of the first m are v's, the others u's
-  reached : (m : ℕ) → m ≤ 3 → (a : ℕ) → a < 3 → along (2 ^ a) D (summed m D d u) ≡ elim (ltb a m) [ true ↦ along (2 ^ a) D v | false ↦ along (2 ^ a) D u ]
+  abbrev t : ℕ → ℕ
+  t a = twos D (d a)
+
+  -- along each axis its own displacement is added
+  summed-along : EachAxis (λ a. (l : ℕ) × (along (2 ^ a) D (summed 3 D d u) + l * 2 ^ D ≡ along (2 ^ a) D u + t a))
   unfolding summed
-  reached zero l a h = rw (le-ltb a 0 (omega arith))
-  reached (suc m) l a h = go (reached m (omega arith) a h) (le-or-lt (suc a) m) (le-or-lt a m)
-    where
-      go : along (2 ^ a) D (summed m D d u) ≡ elim (ltb a m) [ true ↦ along (2 ^ a) D v | false ↦ along (2 ^ a) D u ] → (suc a ≤ m) ⊎ (m < suc a) → (a ≤ m) ⊎ (m < a)
-          → along (2 ^ a) D (added m D (summed m D d u) (twos D (d m)) 0) ≡ elim (ltb a (suc m)) [ true ↦ along (2 ^ a) D v | false ↦ along (2 ^ a) D u ]
-      go ih (inl p) q = added-kept m (omega arith) a h (λ e. omega arith) D (summed m D d u) (twos D (d m)) 0 (omega arith) ∙ ih ∙ rw (lt-ltb a m p, lt-ltb a (suc m) (omega arith))
-      go ih (inr p) (inr q) = added-kept m (omega arith) a h (λ e. omega arith) D (summed m D d u) (twos D (d m)) 0 (omega arith) ∙ ih ∙ rw (le-ltb a m (omega arith), le-ltb a (suc m) (omega arith))
-      go ih (inr p) (inl q) =
-          let e : m ≡ a = omega arith in
-          rw (e, lt-ltb a (suc a) (omega arith))
-          (added-mod a h D (summed a D d u) (twos D (d a))
-          ∙ rw (rw (e, le-ltb a a (omega arith)) at ih) (twos-sum D (d a) (along (2 ^ a) D u) (along (2 ^ a) D v) (along-lt (2 ^ a) D u) (along-lt (2 ^ a) D v) (came .each a h)))
+  summed-along a h =
+      let (l0, e0) = added-along 0 (omega arith) a h D u (t 0) 0 (omega arith) in
+      let (l1, e1) = added-along 1 (omega arith) a h D (summed 1 D d u) (t 1) 0 (omega arith) in
+      let (l2, e2) = added-along 2 (omega arith) a h D (summed 2 D d u) (t 2) 0 (omega arith) in
+      let all = each-axis (λ a. on (eqb 0 a) (t 0 + 0) + on (eqb 1 a) (t 1 + 0) + on (eqb 2 a) (t 2 + 0) ≡ t a) (omega arith) (omega arith) (omega arith) a h in
+      (l0 + l1 + l2, omega (arith, e0, e1, e2, all, add-mul (l0 + l1) l2 (2 ^ D), add-mul l0 l1 (2 ^ D)))
 
   pub sum-came : summed 3 D d u ≡ v
   unfolding summed
   sum-came =
-      same-voxel D (summed 3 D d u) v (added-lt 2 (omega arith) D (summed 2 D d u) (twos D (d 2)) 0 (omega arith)) (came .root)
-      (λ a h. reached 3 (omega arith) a h ∙ rw (lt-ltb a 3 h))
+      same-voxel D (summed 3 D d u) v (added-lt 2 (omega arith) D (summed 2 D d u) (t 2) 0 (omega arith)) (came .root)
+      (λ a h.
+      let (l, e) = summed-along a h in
+      let c = twos-congruent D (d a) in
+      let m = displaced-parts (d a) (along (2 ^ a) D u) (along (2 ^ a) D v) .0 (came .each a h) in
+      congruent-equal (2 ^ D) _ _ (along-lt (2 ^ a) D (summed 3 D d u)) (along-lt (2 ^ a) D v)
+      (record { j = l + c .j; k = c .k; same = omega (arith, e, c .same, m, add-mul l (c .j) (2 ^ D)) }))
 
 -- ---- the paths of document 000: r057 + 101 = r275 along y, and r275 + 011 = r057, its last carry lost
 
