@@ -10,7 +10,7 @@ use Rattle.cells.specs.Place.{along}
 use Rattle.cells.proofs.Power.{pow2-suc, pow8-pos, pow8-suc}
 use Rattle.cells.proofs.Places.{along-step}
 use Rattle.records.specs.Record.{black}
-use Rattle.shifts.specs.Labels.{sumLabel, carryLabel, Uses}
+use Rattle.shifts.specs.LabelSums.{sumLabel, carryLabel, Uses}
 use Rattle.shifts.specs.Shift.{shift, shifted, carry, cellOf, need}
 use Rattle.shifts.proofs.Bits.{bit, same-label, zero-bit, sum-lt, sum-bit, carry-lt, carry-bit, join-lt, join-bit, uses-none, none-used, uses-carry}
 

@@ -4,7 +4,7 @@ use Prim.Native.Nat.{ℕ, zero, suc, _+_, _*_, _/_, _%_, _^_, _<_, max}
 use native.Mathlib.Nat.{zero-div}
 use native.Mathlib.Omega.{arith}
 use Rattle.cells.proofs.Places.{pick, label-bit}
-use Rattle.shifts.specs.Labels.{label, ones, sumLabel, carryLabel, joinLabel, Uses}
+use Rattle.shifts.specs.LabelSums.{label, ones, sumLabel, carryLabel, joinLabel, Uses}
 
 -- ---- a label by its bits
 

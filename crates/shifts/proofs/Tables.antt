@@ -7,7 +7,7 @@ use lib.Dec.{eqb}
 use borrow.Author.Tests.{eqb-true}
 use Rattle.records.specs.Fault.{allFrom}
 use Rattle.records.proofs.Fill.{all-true}
-use Rattle.shifts.specs.Labels.{sumLabel, carryLabel, joinLabel}
+use Rattle.shifts.specs.LabelSums.{sumLabel, carryLabel, joinLabel}
 
 -- a test that holds of all labels holds of each
 each : (P : ℕ → Bool) → allFrom P 0 8 ≡ true → (h : ℕ) → h < 8 → P h ≡ true

@@ -7,7 +7,7 @@ use lib.ListN.{getD}
 use Rattle.records.specs.Record.{black}
 use Rattle.emit.specs.Inner.{Ready}
 use Rattle.emit.specs.declared.inner.Runs.{Runs}
-use Rattle.shifts.specs.Labels.{Uses}
+use Rattle.shifts.specs.LabelSums.{Uses}
 use Rattle.shifts.specs.Shift.{need, cellOf}
 use Rattle.shifts.specs.Slot.{Source, Of, OfCell, SlotTint, tintOf, slotAt}
 use Rattle.shifts.specs.declared.inner.descent.Target.{Target}

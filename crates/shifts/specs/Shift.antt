@@ -5,7 +5,7 @@ use mathlib.Core.List.{List}
 use Prim.Native.Nat.{ℕ, zero, suc, _+_, _-_, _*_, _/_, _%_, _^_}
 use lib.Dec.{ltb}
 use Rattle.records.specs.Record.{black}
-use Rattle.shifts.specs.Labels.{sumLabel, carryLabel, joinLabel}
+use Rattle.shifts.specs.LabelSums.{sumLabel, carryLabel, joinLabel}
 
 -- the place v of a cube of depth n, shifted by w along each axis, with the carry q from below
 unfoldable pub shift : ℕ → ℕ → ℕ → ℕ → ℕ

@@ -2,7 +2,7 @@
 ghost use mathlib.Core.Path.{_≡_};
 ghost use mathlib.Core.Bool.{true, false};
 ghost use Prim.Native.Nat.{_<_};
-ghost use Rattle.shifts.specs.Labels.{sumLabel, carryLabel, joinLabel, Uses};
+ghost use Rattle.shifts.specs.LabelSums.{sumLabel, carryLabel, joinLabel, Uses};
 ghost use Rattle.shifts.specs.Shift.{need};
 
 // The label of the sum of three labels.

@@ -9,7 +9,7 @@ use crate::inner::slots::tint_slot;
 ghost use mathlib.Core.Path.{_≡_};
 ghost use mathlib.Core.Bool.{true};
 ghost use Prim.Native.Nat.{ℕ, suc, _+_, _*_, _<_};
-ghost use Rattle.shifts.specs.Labels.{sumLabel, carryLabel, Uses};
+ghost use Rattle.shifts.specs.LabelSums.{sumLabel, carryLabel, Uses};
 ghost use Rattle.shifts.specs.Slot.{Of, OfCell, SlotTint, slotAt};
 ghost use Rattle.shifts.specs.Descent.{Slots, OfCells, Divided, SlotsTint, partAt};
 

@@ -11,7 +11,7 @@ use Rattle.emit.proofs.Runs.{fed-white, fed-to}
 use Rattle.shifts.specs.Slot.{Of, SlotTint, tintOf}
 use Rattle.shifts.specs.Descent.{Copies}
 use Rattle.shifts.specs.declared.inner.slots.Tint.{Tint}
-use Rattle.shifts.proofs.Parts.{slot-colour}
+use Rattle.shifts.proofs.SlotLaws.{slot-colour}
 use Rattle.shifts.proofs.inner.descent.copy_slot.Statement.{statement}
 use Rattle.shifts.proofs.inner.descent.copy_slot.Tie as tie
 

@@ -6,7 +6,7 @@ use borrow.Author.Needs.{needs}
 use lib.ListN.{getD}
 use Rattle.cells.proofs.Cells.{within}
 use Rattle.cells.proofs.Words.{pow8-small}
-use Rattle.shifts.proofs.Parts.{at-cell, slot-proper, slot-cell}
+use Rattle.shifts.proofs.SlotLaws.{at-cell, slot-proper, slot-cell}
 use Rattle.shifts.proofs.inner.slots.cell_from.Statement.{statement}
 use Rattle.shifts.proofs.inner.slots.cell_from.Tie as tie
 

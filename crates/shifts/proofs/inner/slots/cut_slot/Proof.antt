@@ -13,7 +13,7 @@ use Rattle.records.specs.Inner.{Starts}
 use Rattle.shifts.specs.Slot.{Of, OfCell}
 use Rattle.shifts.specs.declared.inner.slots.Slot.{Slot}
 use Rattle.shifts.proofs.Arrays.{Filled, filled-none, filled-more}
-use Rattle.shifts.proofs.Parts.{Cut, cut-none, cut-next, cut-part, at-cell, slot-proper, slot-low, edge, edge-next, inside}
+use Rattle.shifts.proofs.SlotLaws.{Cut, cut-none, cut-next, cut-part, at-cell, slot-proper, slot-low, edge, edge-next, inside}
 use Rattle.shifts.proofs.inner.slots.cut_slot.Statement.{statement}
 use Rattle.shifts.proofs.inner.slots.cut_slot.Tie as tie
 

@@ -6,7 +6,7 @@ use native.Mathlib.Numerals.{add-one}
 use borrow.Author.Needs.{needs}
 use Rattle.shifts.specs.Slot.{Of, SlotTint, tintOf, slotAt}
 use Rattle.shifts.specs.declared.inner.slots.Tint.{Tint}
-use Rattle.shifts.proofs.Parts.{slot-whole, eightOf, each-of-eight}
+use Rattle.shifts.proofs.SlotLaws.{slot-whole, eightOf, each-of-eight}
 use Rattle.shifts.proofs.inner.slots.split_slot.Statement.{statement}
 use Rattle.shifts.proofs.inner.slots.split_slot.Tie as tie
 

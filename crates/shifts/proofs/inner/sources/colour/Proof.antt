@@ -7,7 +7,7 @@ use native.Mathlib.Omega.{arith}
 use borrow.Author.Needs.{needs}
 use borrow.Author.Tests.{not-false}
 use Rattle.cells.proofs.Power.{le-or-lt}
-use Rattle.shifts.specs.Labels.{Uses}
+use Rattle.shifts.specs.LabelSums.{Uses}
 use Rattle.shifts.specs.Slot.{SlotTint, slotAt, tintOf}
 use Rattle.shifts.specs.declared.inner.slots.Tint.the-variants.{Mixed}
 use Rattle.shifts.proofs.Bits.{uses-none}

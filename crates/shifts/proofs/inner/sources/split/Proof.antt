@@ -4,7 +4,7 @@ use mathlib.Core.List.{List, []}
 use Prim.Native.Nat.{ℕ, suc, _+_, _-_, _*_, _<_}
 use native.Mathlib.Omega.{arith}
 use borrow.Author.Needs.{needs}
-use Rattle.shifts.specs.Labels.{Uses}
+use Rattle.shifts.specs.LabelSums.{Uses}
 use Rattle.shifts.specs.Slot.{Of, slotAt}
 use Rattle.shifts.specs.declared.inner.slots.Slot.{Slot}
 use Rattle.shifts.proofs.Arrays.{Filled, filled-none, filled-more}
@@ -12,11 +12,11 @@ use Rattle.shifts.proofs.inner.sources.split.Statement.{statement}
 use Rattle.shifts.proofs.inner.sources.split.Tie as tie
 
 -- row q has the parts of slot q, if that is needed, whatever cell it is of
-abbrev Parted : ℕ → List ℕ → ℕ → ℕ → List Slot → ℕ → List Slot → Type 0
-Parted D l k f t q p = Uses f q → (b : ℕ) → Of D l (suc k) b (slotAt t q) → (m : ℕ) → m < 8 → Of D l k (8 * b + m) (slotAt p m)
+abbrev Row : ℕ → List ℕ → ℕ → ℕ → List Slot → ℕ → List Slot → Type 0
+Row D l k f t q p = Uses f q → (b : ℕ) → Of D l (suc k) b (slotAt t q) → (m : ℕ) → m < 8 → Of D l k (8 * b + m) (slotAt p m)
 
 abbrev Inv-loop : tie.InvT-loop
-Inv-loop depth l k f t r₀ q₀ r q = Filled (Parted depth l k f t) [] 8 r q
+Inv-loop depth l k f t r₀ q₀ r q = Filled (Row depth l k f t) [] 8 r q
 
 abbrev μ-loop : tie.MeasureT-loop
 μ-loop depth l k f t r₀ q₀ r q = 8 - q
