@@ -23,6 +23,9 @@ pub mod Part
 pub mod Search
 -- what is written to the front of a buffer
 pub mod Writing
+-- slots: the leaves that meet a cell and its children; arrays that a loop fills
+pub mod SlotLaws
+pub mod Arrays
 -- what follows of the calls, and instances
 pub mod CallLaws
 pub mod MetLaws

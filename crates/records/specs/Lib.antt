@@ -9,3 +9,4 @@ pub mod Carried
 -- the vocabulary of private and inner functions
 pub mod Inner
 pub mod Walk
+pub mod Slot

@@ -15,10 +15,10 @@ use Rattle.records.proofs.Fault.{in-order}
 use Rattle.emit.specs.declared.inner.Runs.{Runs}
 use Rattle.emit.specs.Inner.{Ready, Next, Fed}
 use Rattle.emit.proofs.Runs.{fed-none, fed-white, fed-then}
-use Rattle.shifts.specs.Slot.{OfCell, SlotTint}
-use Rattle.shifts.specs.declared.inner.slots.Slot.{Slot}
-use Rattle.shifts.specs.declared.inner.slots.Tint.the-variants.{Mixed}
-use Rattle.shifts.proofs.SlotLaws.{slot-proper, slot-low, slot-high, slot-off, black-at}
+use Rattle.records.specs.Slot.{OfCell, SlotTint}
+use Rattle.records.specs.declared.slots.Slot.{Slot}
+use Rattle.records.specs.declared.slots.Tint.the-variants.{Mixed}
+use Rattle.records.proofs.SlotLaws.{slot-proper, slot-low, slot-high, slot-off, black-at}
 
 -- on the w voxels from `from` on P is what l has from `base` on
 abbrev pub From : ℕ → List ℕ → ℕ → ℕ → ℕ → (ℕ → Bool) → Type 0

@@ -2,9 +2,6 @@
 pub mod Bits
 pub mod Tables
 pub mod Adder
--- slots: the leaves that meet a cell and its children; arrays that a loop fills
-pub mod SlotLaws
-pub mod Arrays
 -- the descent: one source cell copied; target cells and their children
 pub mod Copying
 pub mod Targets

@@ -3,5 +3,4 @@
 // addition of labels of document 000.
 pub mod descent;
 pub mod labels;
-pub mod slots;
 pub mod sources;

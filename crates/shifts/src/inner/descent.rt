@@ -1,9 +1,5 @@
 // The descent through target cells, each with its slots, into eight children, the levels left falling.
 use crate::inner::labels::axes;
-use crate::inner::slots::Slot;
-use crate::inner::slots::Tint;
-use crate::inner::slots::cell_from;
-use crate::inner::slots::tint_slot;
 use crate::inner::sources::colour;
 use crate::inner::sources::pick;
 use crate::inner::sources::split;
@@ -13,13 +9,17 @@ use cells::inner::width;
 use emit::inner::Runs;
 use emit::inner::finish;
 use emit::inner::push;
+use records::slots::Slot;
+use records::slots::Tint;
+use records::slots::cell_from;
+use records::slots::tint_slot;
 ghost use mathlib.Core.Bool.{Bool};
 ghost use Prim.Native.Nat.{ℕ, suc, _+_, _*_, _≤_, _<_, _^_};
 ghost use Rattle.emit.specs.Inner.{Fed, Result};
 ghost use Rattle.shifts.specs.Shift.{shifted};
-ghost use Rattle.shifts.specs.Slot.{Source, Of, SlotTint};
+ghost use Rattle.records.specs.Slot.{Source, Of, SlotTint};
 ghost use Rattle.shifts.specs.Descent.{Copying, Copies, Aimed, Divides};
-ghost use Rattle.shifts.specs.declared.inner.slots.Tint.the-variants.{Mixed};
+ghost use Rattle.records.specs.declared.slots.Tint.the-variants.{Mixed};
 
 // A target cell: its least voxel, the levels below it, and the axes on which the shift's labels of these levels are not all 0.
 pub struct Target {

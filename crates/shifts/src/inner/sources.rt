@@ -2,15 +2,15 @@
 use crate::inner::labels::carry_label;
 use crate::inner::labels::sum_label;
 use crate::inner::labels::within;
-use crate::inner::slots::Slot;
-use crate::inner::slots::Tint;
-use crate::inner::slots::split_slot;
-use crate::inner::slots::tint_slot;
+use records::slots::Slot;
+use records::slots::Tint;
+use records::slots::split_slot;
+use records::slots::tint_slot;
 ghost use mathlib.Core.Path.{_≡_};
 ghost use mathlib.Core.Bool.{true};
 ghost use Prim.Native.Nat.{ℕ, suc, _+_, _*_, _<_};
 ghost use Rattle.shifts.specs.LabelSums.{sumLabel, carryLabel, Uses};
-ghost use Rattle.shifts.specs.Slot.{Of, OfCell, SlotTint, slotAt};
+ghost use Rattle.records.specs.Slot.{Of, OfCell, SlotTint, slotAt};
 ghost use Rattle.shifts.specs.Descent.{Slots, OfCells, Divided, SlotsTint, partAt};
 
 // The parts of slot q, where it is needed; else nothing is said.

@@ -8,10 +8,10 @@ use Rattle.cells.proofs.Power.{pow8-pos}
 use Rattle.cells.proofs.Words.{pow8-small}
 use Rattle.emit.specs.Inner.{Next}
 use Rattle.emit.proofs.Runs.{fed-white, fed-to}
-use Rattle.shifts.specs.Slot.{Of, SlotTint, tintOf}
+use Rattle.records.specs.Slot.{Of, SlotTint, tintOf}
 use Rattle.shifts.specs.Descent.{Copies}
-use Rattle.shifts.specs.declared.inner.slots.Tint.{Tint}
-use Rattle.shifts.proofs.SlotLaws.{slot-colour}
+use Rattle.records.specs.declared.slots.Tint.{Tint}
+use Rattle.records.proofs.SlotLaws.{slot-colour}
 use Rattle.shifts.proofs.inner.descent.copy_slot.Statement.{statement}
 use Rattle.shifts.proofs.inner.descent.copy_slot.Tie as tie
 

@@ -1,7 +1,7 @@
 -- `shifts::inner::sources::agrees` meets its contract. Assumes nothing.
 use mathlib.Core.Path.{subst}
 use borrow.Author.Needs.{needs}
-use Rattle.shifts.specs.Slot.{SlotTint}
+use Rattle.records.specs.Slot.{SlotTint}
 use Rattle.shifts.proofs.inner.sources.agrees.Statement.{statement}
 use Rattle.shifts.proofs.inner.sources.agrees.Tie as tie
 

@@ -6,8 +6,8 @@ use native.Mathlib.Omega.{arith}
 use borrow.Author.Needs.{needs}
 use Rattle.shifts.specs.LabelSums.{sumLabel, carryLabel}
 use Rattle.shifts.specs.Descent.{partAt}
-use Rattle.shifts.specs.declared.inner.slots.Slot.{Slot}
-use Rattle.shifts.proofs.Arrays.{Filled, filled-none, filled-more}
+use Rattle.records.specs.declared.slots.Slot.{Slot}
+use Rattle.records.proofs.Arrays.{Filled, filled-none, filled-more}
 use Rattle.shifts.proofs.inner.sources.pick.Statement.{statement}
 use Rattle.shifts.proofs.inner.sources.pick.Tie as tie
 

@@ -5,9 +5,9 @@ use Prim.Native.Nat.{ℕ, suc, _+_, _-_, _*_, _<_}
 use native.Mathlib.Omega.{arith}
 use borrow.Author.Needs.{needs}
 use Rattle.shifts.specs.LabelSums.{Uses}
-use Rattle.shifts.specs.Slot.{Of, slotAt}
-use Rattle.shifts.specs.declared.inner.slots.Slot.{Slot}
-use Rattle.shifts.proofs.Arrays.{Filled, filled-none, filled-more}
+use Rattle.records.specs.Slot.{Of, slotAt}
+use Rattle.records.specs.declared.slots.Slot.{Slot}
+use Rattle.records.proofs.Arrays.{Filled, filled-none, filled-more}
 use Rattle.shifts.proofs.inner.sources.split.Statement.{statement}
 use Rattle.shifts.proofs.inner.sources.split.Tie as tie
 

@@ -1,4 +1,4 @@
--- `shifts::inner::slots::cut_slot` meets its contract. The loop's invariant: the parts before child m are cut, and i is the cut before it. Assumes nothing.
+-- `records::slots::cut_slot` meets its contract. The loop's invariant: the parts before child m are cut, and i is the cut before it. Assumes nothing.
 use mathlib.Core.Path.{_≡_, refl, sym, ap, _∙_, subst}
 use mathlib.Core.List.{List}
 use Prim.Native.Nat.{ℕ, suc, _+_, _-_, _*_, _^_, _≤_}
@@ -9,13 +9,13 @@ use borrow.Author.Needs.{needs}
 use lib.ListN.{getD}
 use Rattle.cells.proofs.Cells.{within}
 use Rattle.cells.proofs.Words.{pow8-small}
 use Rattle.records.specs.Inner.{Starts}
-use Rattle.shifts.specs.Slot.{Of, OfCell}
-use Rattle.shifts.specs.declared.inner.slots.Slot.{Slot}
-use Rattle.shifts.proofs.Arrays.{Filled, filled-none, filled-more}
-use Rattle.shifts.proofs.SlotLaws.{Cut, cut-none, cut-next, cut-part, at-cell, slot-proper, slot-low, edge, edge-next, inside}
-use Rattle.shifts.proofs.inner.slots.cut_slot.Statement.{statement}
-use Rattle.shifts.proofs.inner.slots.cut_slot.Tie as tie
+use Rattle.records.specs.Slot.{Of, OfCell}
+use Rattle.records.specs.declared.slots.Slot.{Slot}
+use Rattle.records.proofs.Arrays.{Filled, filled-none, filled-more}
+use Rattle.records.proofs.SlotLaws.{Cut, cut-none, cut-next, cut-part, at-cell, slot-proper, slot-low, edge, edge-next, inside}
+use Rattle.records.proofs.slots.cut_slot.Statement.{statement}
+use Rattle.records.proofs.slots.cut_slot.Tie as tie
 
 record Cutting (D : ℕ) (l : List ℕ) (k b : ℕ) (s : Slot) (v i : ℕ) (r : List Slot) (m : ℕ) : Type 0 where
   place : v ≡ (8 * b + m) * 8 ^ k

@@ -1,4 +1,4 @@
--- `shifts::inner::slots::cell_from` meets its contract: the slot's first leaf lies in the cell. Assumes nothing.
+-- `records::slots::cell_from` meets its contract: the slot's first leaf lies in the cell. Assumes nothing.
 use Prim.Native.Nat.{_/_}
 use native.Mathlib.Nat.{div-add-mod'}
 use native.Mathlib.Omega.{arith}
@@ -6,9 +6,9 @@ use borrow.Author.Needs.{needs}
 use lib.ListN.{getD}
 use Rattle.cells.proofs.Cells.{within}
 use Rattle.cells.proofs.Words.{pow8-small}
-use Rattle.shifts.proofs.SlotLaws.{at-cell, slot-proper, slot-cell}
-use Rattle.shifts.proofs.inner.slots.cell_from.Statement.{statement}
-use Rattle.shifts.proofs.inner.slots.cell_from.Tie as tie
+use Rattle.records.proofs.SlotLaws.{at-cell, slot-proper, slot-cell}
+use Rattle.records.proofs.slots.cell_from.Statement.{statement}
+use Rattle.records.proofs.slots.cell_from.Tie as tie
 
 first-requires : tie.Need-first-requires
 first-requires c κs = let p = c .before .before .before .before .pre in (p .0 .source .deep, slot-proper (p .0) (p .1) _ (p .1 .0))

@@ -1,14 +1,14 @@
--- INNER: for the contracts of this crate. Slots: the leaves of a list that meet one cell. Definitions only.
+-- INNER: for the contracts of `slots` and of the descents above. Slots: the leaves of a list that meet one cell. Definitions only.
 use mathlib.Core.Bool.{Bool, true, false}
 use mathlib.Core.List.{List}
 use Prim.Native.Nat.{ℕ, _+_, _*_, _^_, _<_, _≤_}
 use lib.ListN.{length, getD}
 use Rattle.cells.specs.Answer.{deepest}
 use Rattle.cells.specs.Cell.{start, span}
 use Rattle.records.specs.Record.{Ordered}
-use Rattle.shifts.specs.declared.inner.slots.Slot.{Slot}
-use Rattle.shifts.specs.declared.inner.slots.Tint.{Tint}
-use Rattle.shifts.specs.declared.inner.slots.Tint.the-variants.{White, Black, Mixed}
+use Rattle.records.specs.declared.slots.Slot.{Slot}
+use Rattle.records.specs.declared.slots.Tint.{Tint}
+use Rattle.records.specs.declared.slots.Tint.the-variants.{White, Black, Mixed}
 
 -- a list that can be searched
 pub record Source (D : ℕ) (l : List ℕ) : Type 0 where

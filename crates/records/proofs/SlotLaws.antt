@@ -12,15 +12,15 @@ use Rattle.cells.specs.Cell.{proper, span, start, holds}
 use Rattle.cells.proofs.Bools.{refuted, clash}
 use Rattle.cells.proofs.Power.{le-or-lt, pow8-pos, pow8-suc, pow8-mono, pow8-le-inv, pow8-split}
 use Rattle.cells.proofs.Cells.{cell, span-pos}
 use Rattle.records.specs.Record.{black, Ordered}
 use Rattle.records.specs.Inner.{Starts}
 use Rattle.records.proofs.Lists.{held, before-cell, after-cell}
 use Rattle.records.proofs.Leaves.{member-black, leaf-of}
 use Rattle.records.proofs.Fault.{member-at, index-of, in-order}
 use Rattle.records.proofs.Search.{proper-at}
-use Rattle.shifts.specs.Slot.{Source, Of, OfCell, SlotTint, tintOf, slotAt}
-use Rattle.shifts.specs.declared.inner.slots.Tint.the-variants.{Black, Mixed}
-use Rattle.shifts.specs.declared.inner.slots.Slot.{Slot}
+use Rattle.records.specs.Slot.{Source, Of, OfCell, SlotTint, tintOf, slotAt}
+use Rattle.records.specs.declared.slots.Tint.the-variants.{Black, Mixed}
+use Rattle.records.specs.declared.slots.Slot.{Slot}
 
 -- ---- aligned intervals: [a * 8 ^ k, .. + 8 ^ k) against the edge b * 8 ^ n, k at most n
 

@@ -1,13 +1,14 @@
-// Slots: the leaves of a list that meet one cell, and how they fall to its children.
+// INNER: slots, the leaves of a list that meet one cell, and how they fall to its children, for the crates above that go down from cell to cell. A host must
+// not call these.
+use crate::inner::first_from;
 use cells::inner::first;
 use cells::inner::pow8;
 use cells::inner::width;
-use records::inner::first_from;
 ghost use mathlib.Core.Path.{_≡_};
 ghost use Prim.Native.Nat.{ℕ, suc, _+_, _*_, _≤_, _<_, _^_};
 ghost use lib.ListN.{length};
-ghost use Rattle.shifts.specs.Slot.{Source, Of, OfCell, SlotTint, slotAt};
-ghost use Rattle.shifts.specs.declared.inner.slots.Tint.the-variants.{Mixed};
+ghost use Rattle.records.specs.Slot.{Source, Of, OfCell, SlotTint, slotAt};
+ghost use Rattle.records.specs.declared.slots.Tint.the-variants.{Mixed};
 
 // The leaves from place lo up to place hi.
 pub struct Slot {
