@@ -12,8 +12,8 @@ ghost use Rattle.records.specs.declared.slots.Tint.the-variants.{Mixed};
 
 // The leaves from place lo up to place hi.
 pub struct Slot {
-    pub lo: u32,
-    pub hi: u32,
+    pub lo: usize,
+    pub hi: usize,
 }
 
 // What is known of a piece: none of its voxels is black, all are, or nothing.
@@ -32,8 +32,7 @@ pub fn tint_slot(depth: u32, l: &[u32], w: u32, s: Slot) -> Tint
     if s.hi <= lo {
         return Tint::White;
     }
-    let at = lo as usize;
-    let c = l[at];
+    let c = l[lo];
     if w <= width(depth, c) {
         return Tint::Black;
     }
@@ -46,7 +45,7 @@ pub fn cell_from(depth: u32, l: &[u32], k: u32, s: Slot) -> u32
     ensures { λ r. ⌜ ((b : ℕ) → Of depth (now (l .entry)) k b s → r ≡ b * 8 ^ k) ⌝ }
 {
     let w = pow8(k);
-    let at = s.lo as usize;
+    let at = s.lo;
     first(depth, l[at]) / w * w
 }
 

@@ -41,8 +41,7 @@ pub fn copy_leaves(depth: u32, l: &[u32], c: Target, s: Slot, r: Runs, out: &mut
     let mut t = r;
     let mut i = s.lo;
     while i < hi {
-        let at = i as usize;
-        let code = l[at];
+        let code = l[i];
         let v = from + (first(depth, code) - base);
         t = push(depth, t, true, v, v + width(depth, code), out);
         i += 1;
@@ -148,7 +147,7 @@ pub fn shift_list(depth: u32, l: &[u32], w: u32, out: &mut [u32]) -> usize
     };
     let all = Slot {
         lo: 0,
-        hi: l.len() as u32,
+        hi: l.len(),
     };
     let root = Target {
         from: 0,

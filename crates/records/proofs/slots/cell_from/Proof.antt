@@ -11,26 +11,25 @@ use Rattle.records.proofs.slots.cell_from.Statement.{statement}
 use Rattle.records.proofs.slots.cell_from.Tie as tie
 
 first-requires : tie.Need-first-requires
-first-requires c κs = let p = c .before .before .before .before .pre in (p .0 .source .deep, slot-proper (p .0) (p .1) _ (p .1 .0))
+first-requires c κs = let p = c .before .before .before .pre in (p .0 .source .deep, slot-proper (p .0) (p .1) _ (p .1 .0))
 
 mul-result : tie.Need-mul-result
 mul-result c =
-    let s = c .before .before .before .before .before in
+    let s = c .before .before .before .before in
     let a = s .args in
     let low = within (a .depth) (getD (a .l .now) (a .s .lo) 0) (slot-proper (s .pre .0) (s .pre .1) _ (s .pre .1 .0)) in
-    record { fits = omega (arith, c .first .ensures, low, pow8-small (a .depth) (s .pre .0 .source .deep), div-add-mod' (c .first .result) (c .before .before .before .pow8 .result)) }
+    record { fits = omega (arith, c .first .ensures, low, pow8-small (a .depth) (s .pre .0 .source .deep), div-add-mod' (c .first .result) (c .before .before .pow8 .result)) }
 
 returns : tie.Need-returns
 returns c = λ b y.
-    let p = c .before .before .before .before .before .pre in
-    rw (c .first .ensures, c .before .before .before .pow8 .ensures, slot-cell (at-cell (p .0) y) (p .1))
+    let p = c .before .before .before .before .pre in
+    rw (c .first .ensures, c .before .before .pow8 .ensures, slot-cell (at-cell (p .0) y) (p .1))
 
 pub cell-from-spec : {M : Type 1} → statement M
 cell-from-spec =
     tie.close
     (tie.spec
     (λ c κs. search needs)
-    (λ c. search needs)
     (λ c. search needs)
     (λ c. search needs)
     first-requires

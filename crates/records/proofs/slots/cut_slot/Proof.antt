@@ -58,7 +58,7 @@ add-v c =
     record { fits = omega (arith, known c .place, edge (x .cell) m (a .k), child, slot-low x t _ (omega arith) (t .0), top, pow8-small (a .depth) (x .source .deep), pow8-small (suc (a .k)) (omega (arith, x .level, x .source .deep)), c .before .before .before .pow8 .ensures) }
 
 first-from-requires : tie.Need-first-from-requires Inv-loop μ-loop
-first-from-requires c κs = let x = start c .pre .0 in (x .source .deep, x .source .ordered, known c .cut .high, x .part .within)
+first-from-requires c κs = let x = start c .pre .0 in record { shallow = x .source .deep; ordered = x .source .ordered; rising = known c .cut .high; within = x .part .within }
 
 loop-again : tie.Need-loop-again Inv-loop μ-loop
 loop-again c = λ b y.

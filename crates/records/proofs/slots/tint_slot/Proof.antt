@@ -14,4 +14,4 @@ width-requires c κs =
 pub tint-slot-spec : {M : Type 1} → statement M
 tint-slot-spec =
     tie.close
-    (tie.spec (λ c. search needs) (λ c. search needs) (λ c. search needs) (λ c. search needs) width-requires (λ c. search needs) (λ c. search needs))
+    (tie.spec (λ c. search needs) (λ c. search needs) (λ c. search needs) width-requires (λ c. search needs) (λ c. search needs))
