@@ -3,7 +3,8 @@ use mathlib.Core.Path.{_≡_, refl, sym, ap, _∙_}
 use Prim.Native.Nat.{ℕ, zero, suc, _+_, _*_, _/_, _%_, _^_, _<_, max}
 use native.Mathlib.Nat.{zero-div}
 use native.Mathlib.Omega.{arith}
-use Rattle.cells.proofs.Places.{pick, label-bit}
+use Rattle.cells.specs.Place.{axes}
+use Rattle.cells.proofs.Places.{each-axis, label-bit}
 use Rattle.shifts.specs.LabelSums.{label, ones, sumLabel, carryLabel, joinLabel, Uses}
 
 -- ---- a label by its bits
@@ -12,18 +13,12 @@ use Rattle.shifts.specs.LabelSums.{label, ones, sumLabel, carryLabel, jo
 abbrev pub bit : ℕ → ℕ → ℕ
 bit a f = f / 2 ^ a % 2
 
-pick-axis : (f : ℕ → ℕ) (a : ℕ) → a < 3 → pick a (f 1) (f 2) (f 4) ≡ f (2 ^ a)
-pick-axis f zero h = refl
-pick-axis f (suc zero) h = refl
-pick-axis f (suc (suc zero)) h = refl
-pick-axis f (suc (suc (suc a))) h = absurd (omega arith)
-
 module _ (f : ℕ → ℕ) (two : (b : ℕ) → f b < 2) where
   pub label-lt : label f < 8
   label-lt = omega (arith, two 1, two 2, two 4)
 
   pub label-is : (a : ℕ) → a < 3 → bit a (label f) ≡ f (2 ^ a)
-  label-is a h = label-bit a (f 1) (f 2) (f 4) h (two 1) (two 2) (two 4) ∙ pick-axis f a h
+  label-is a h = label-bit a (f 1) (f 2) (f 4) h (two 1) (two 2) (two 4) ∙ each-axis (λ a. axes (f 1) (f 2) (f 4) a ≡ f (2 ^ a)) refl refl refl a h
 
 label-bits : (f : ℕ) → f < 8 → f / 1 % 2 + 2 * (f / 2 % 2) + 4 * (f / 4 % 2) ≡ f
 label-bits f h = omega arith

@@ -68,7 +68,6 @@ copy-leaves-spec =
     (λ c κs. search needs)
     (λ c. let p = start c .pre in copied-none (p .0 .held) (p .1) (at c) (p .0 .root) (p .0 .ready))
     (λ c. search needs)
-    (λ c. search needs)
     (λ c. omega (arith, c .before .loop-test .taken, begun (c .before) .pre .0 .held .part .within))
     (λ c κs. let x = comes (c .before) in (x .piece .deep, x .is-proper))
     (λ c. omega (arith, c .first .ensures, comes (c .before .before) .low))

@@ -9,11 +9,6 @@ use Rattle.shifts.proofs.Targets.{root-aimed}
 use Rattle.shifts.proofs.inner.descent.shift_list.Statement.{statement}
 use Rattle.shifts.proofs.inner.descent.shift_list.Tie as tie
 
-cast-t10 : tie.Need-cast-t10
-cast-t10 c =
-    let s = c .before .before in
-    record { fits = omega (arith, few-ordered (s .args .depth) 0 (s .args .l .now) (omega arith) (s .pre .ordered), pow8-small (s .args .depth) (s .pre .deep)) }
-
 returns : tie.Need-returns
 returns c = c .before .before .finish .ensures _ _ (fed-all _ _ _ _ _ (fed-to _ _ (zero-add _) (c .before .before .before .before .before .before .shift-cell .ensures)))
 
@@ -21,7 +16,6 @@ pub shift-list-spec : {M : Type 1} → statement M
 shift-list-spec =
     tie.close
     (tie.spec
-    cast-t10
     (λ c κs. search needs)
     (λ c κs. root-aimed (c .before .before .before .before .pre) (c .before .axes .ensures))
     (λ c κs. search needs)
