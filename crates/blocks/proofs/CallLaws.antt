@@ -1,9 +1,9 @@
--- The laws of the calls on stored files: what a call that begins with a survey takes from it, and no second answer fits. Assumes nothing.
+-- The laws of the calls on stored files: what a call that begins by judging the file takes from it, and no second answer fits. Assumes nothing.
 use mathlib.Core.Path.{_≡_, refl, sym, ap, _∙_}
 use mathlib.Core.Bool.{Bool, true, false}
 use mathlib.Core.List.{List, [], _∷_}
 use mathlib.Core.Logic.{inl, inr}
-use Prim.Native.Nat.{ℕ, _*_}
+use Prim.Native.Nat.{ℕ}
 use native.Mathlib.Omega.{arith}
 use lib.ListN.{length}
 use Rattle.cells.specs.Answer.{given, Test, Decided, alone, keeping, TooDeep}
@@ -13,8 +13,8 @@ use Rattle.records.specs.Record.{Good}
 use Rattle.records.specs.Fault.{Faulty}
 use Rattle.records.specs.Writing.{TooShort}
 use Rattle.records.proofs.CallLaws.{not-faulty, faulty-numbered}
-use Rattle.blocks.specs.Block.{sound, depthOf, leaves, codes}
-use Rattle.blocks.specs.File.{blocksOf}
+use Rattle.blocks.specs.Block.{sound, depthOf, codes}
+use Rattle.blocks.specs.File.{fileOf}
 use Rattle.blocks.specs.Calls.{Unsound, BlockCheckOf, StoredVolumeOf, unread, ReadOf, WriteOf}
 use Rattle.blocks.specs.declared.Reading.{Reading}
 
@@ -24,7 +24,7 @@ use Rattle.blocks.specs.declared.Reading.{Reading}
 pub record Held (b : List ℕ) (n : ℕ) : Type 0 where
   pub is-sound : sound b ≡ true
   pub good : Good (depthOf b) (codes b)
-  pub is-leaves : n ≡ leaves b
+  pub is-length : n ≡ length (codes b)
 
 pub not-unsound : (t : Bool) → (t ≡ false → ⊥) → t ≡ true
 not-unsound true h = refl
@@ -32,21 +32,21 @@ not-unsound false h = absurd (h refl)
 
 -- the file b is judged, and its answer is r
 abbrev pub JudgedOf : List ℕ → Answer → Type 0
-JudgedOf b = Decided alone (Unsound b ∷ Faulty (depthOf b) (codes b) 1 ∷ []) (λ r. r ≡ given (leaves b))
+JudgedOf b = Decided alone (Unsound b ∷ Faulty (depthOf b) (codes b) 1 ∷ []) (λ r. r ≡ given (length (codes b)))
 
 module _ (b : List ℕ) (r : Answer) (d : JudgedOf b r) where
   numbered : Numbered (Unsound b ∷ Faulty (depthOf b) (codes b) 1 ∷ [])
   numbered = (refuses-numbered (λ z. omega arith), (faulty-numbered (depthOf b) (codes b) 1, tt))
 
   -- a refusal is passed on
-  pub survey-first : {S : Type 0} (refuse : Answer → S) (Gs : List Test) (Q : S → Type 0) → (r .number ≡ 0 → ⊥) → Decided refuse (Unsound b ∷ Faulty (depthOf b) (codes b) 1 ∷ Gs) Q (refuse r)
-  survey-first refuse Gs Q some =
-      decided-first refuse (Unsound b ∷ Faulty (depthOf b) (codes b) 1 ∷ []) Gs (λ (a : Answer). a ≡ given (leaves b)) Q r (λ e. some (ap (λ (x : Answer). x .number) e)) d
+  pub judged-first : {S : Type 0} (refuse : Answer → S) (Gs : List Test) (Q : S → Type 0) → (r .number ≡ 0 → ⊥) → Decided refuse (Unsound b ∷ Faulty (depthOf b) (codes b) 1 ∷ Gs) Q (refuse r)
+  judged-first refuse Gs Q some =
+      decided-first refuse (Unsound b ∷ Faulty (depthOf b) (codes b) 1 ∷ []) Gs (λ (a : Answer). a ≡ given (length (codes b))) Q r (λ e. some (ap (λ (x : Answer). x .number) e)) d
 
   -- else the other tests decide
-  pub survey-next : {S : Type 0} (refuse : Answer → S) (Gs : List Test) (Q : S → Type 0) (s : S) → r .number ≡ 0 → Decided refuse Gs Q s → Decided refuse (Unsound b ∷ Faulty (depthOf b) (codes b) 1 ∷ Gs) Q s
-  survey-next refuse Gs Q s z q =
-      decided-next refuse (Unsound b ∷ Faulty (depthOf b) (codes b) 1 ∷ []) Gs (λ (a : Answer). a ≡ given (leaves b)) Q r s numbered z (λ e. q) d
+  pub judged-next : {S : Type 0} (refuse : Answer → S) (Gs : List Test) (Q : S → Type 0) (s : S) → r .number ≡ 0 → Decided refuse Gs Q s → Decided refuse (Unsound b ∷ Faulty (depthOf b) (codes b) 1 ∷ Gs) Q s
+  judged-next refuse Gs Q s z q =
+      decided-next refuse (Unsound b ∷ Faulty (depthOf b) (codes b) 1 ∷ []) Gs (λ (a : Answer). a ≡ given (length (codes b))) Q r s numbered z (λ e. q) d
 
   pub held : r .number ≡ 0 → Held b (r .place)
   held z = go d
@@ -58,11 +58,11 @@ module _ (b : List ℕ) (r : Answer) (d : JudgedOf b r) where
           record {
             is-sound = not-unsound (sound b) (λ h. unsound _ (h, refl));
             good = not-faulty (depthOf b) (codes b) 1 clean;
-            is-leaves = ap (λ (x : Answer). x .place) e;
+            is-length = ap (λ (x : Answer). x .place) e;
           }
 
-  pub found : r .number ≡ 0 → r ≡ given (leaves b)
-  found z = decided-holds (Unsound b ∷ Faulty (depthOf b) (codes b) 1 ∷ []) (λ (a : Answer). a ≡ given (leaves b)) r numbered z d
+  pub found : r .number ≡ 0 → r ≡ given (length (codes b))
+  found z = decided-holds (Unsound b ∷ Faulty (depthOf b) (codes b) 1 ∷ []) (λ (a : Answer). a ≡ given (length (codes b))) r numbered z d
 
 -- ---- no second answer
 
@@ -75,8 +75,8 @@ module _ (b : List ℕ) where
 
   -- the answer with the depth, and the buffer afterwards
   pub one-read : (o : List ℕ) → One (λ (t : Reading × List ℕ). ReadOf b o (t .0) (t .1))
-  one-read o = one-decided (unread o) (Unsound b ∷ Faulty (depthOf b) (codes b) 1 ∷ TooShort (leaves b) o ∷ []) _ (one-refuses, (one-refuses, (one-refuses, tt))) one-equal
+  one-read o = one-decided (unread o) (Unsound b ∷ Faulty (depthOf b) (codes b) 1 ∷ TooShort (length (codes b)) o ∷ []) _ (one-refuses, (one-refuses, (one-refuses, tt))) one-equal
 
 -- the answer, and the bytes afterwards
 pub one-write : (D : ℕ) (l o : List ℕ) → One (λ (t : Answer × List ℕ). WriteOf D l o (t .0) (t .1))
-one-write D l o = one-decided (keeping o) (TooDeep D ∷ Faulty D l 1 ∷ TooShort (512 * blocksOf (length l)) o ∷ []) _ (one-refuses, (one-refuses, (one-refuses, tt))) one-equal
+one-write D l o = one-decided (keeping o) (TooDeep D ∷ Faulty D l 1 ∷ TooShort (length (fileOf D l)) o ∷ []) _ (one-refuses, (one-refuses, (one-refuses, tt))) one-equal

@@ -1,6 +1,6 @@
 -- Any change within one word of a block is found, at that block. Assumes nothing.
 use mathlib.Core.Path.{_≡_, refl, sym, ap, _∙_}
-use mathlib.Core.Bool.{true, false, not}
+use mathlib.Core.Bool.{true, false}
 use mathlib.Core.List.{List}
 use mathlib.Core.Logic.{_⊎_, inl, inr, ⊎-elim}
 use Prim.Native.Nat.{ℕ, zero, suc, _+_, _-_, _*_, _/_, _^_, _≤_, _<_}
@@ -12,14 +12,13 @@ use borrow.Author.Tests.{ne-eqb}
 use Rattle.cells.specs.Answer.{answer}
 use Rattle.cells.specs.declared.Answer.{Answer}
 use Rattle.cells.proofs.Power.{le-or-lt}
-use Rattle.records.proofs.First.{first-is}
 use Rattle.blocks.specs.declared.Sums.{Sums}
 use Rattle.blocks.specs.declared.Reading.{Reading}
-use Rattle.blocks.specs.Block.{word, check, soundBlock, blocks, whole, depthOf, firstUnsound, sound, wrongAt}
+use Rattle.blocks.specs.Block.{word, check, blocks, whole, depthOf, sound, wrongAt}
 use Rattle.blocks.specs.File.{byteOf}
 use Rattle.blocks.specs.Calls.{BlockCheckOf, StoredVolumeOf, unread, ReadOf}
-use Rattle.blocks.proofs.Sound.{Parts, wrong, parts, sound-whole}
-use Rattle.blocks.proofs.Words.{check-ext, check-small, carried, word-small, bytes-of-word}
+use Rattle.blocks.proofs.Sound.{RightWords, wrong, soundAt, first-wrong, right-words, sound-whole}
+use Rattle.blocks.proofs.Words.{each-word, check-ext, check-small, same-words-sound, word-small, bytes-of-word}
 use Rattle.blocks.proofs.CallLaws.{one-check-blocks, one-stored-volume, one-read}
 
 -- ---- the sum A
@@ -90,51 +89,44 @@ module _ (b b' : List ℕ) (i w : ℕ) (c : Changed b b' i w) where
     same-whole = rw (same-blocks, c .same-length) (sound-whole b s)
 
     -- no block of the new file whose words are right stands at i
-    found : (n D : ℕ) → Parts (word b' i) i n D → ⊥
-    found n D p = go (le-or-lt 126 w) (le-or-lt 127 w)
+    found : (n D : ℕ) → RightWords (word b' i) i n D → ⊥
+    found n D p = each-word (λ u. w ≡ u → ⊥) in-words in-a in-b w (c .in-block) refl
       where
-        old : Parts (word b i) i (blocks b) (depthOf b)
-        old = parts b s i (c .block)
+        old : RightWords (word b i) i (blocks b) (depthOf b)
+        old = right-words b s i (c .block)
 
-        go : (126 ≤ w) ⊎ (w < 126) → (127 ≤ w) ⊎ (w < 127) → ⊥
-        go (inr x) y =
-            new (a-tells (word b i) (word b' i) w 126 x (λ k l z. other i k (omega arith) (λ e. z (omega arith))) (word-small b (c .bytes) i w) (word-small b' (c .bytes') i w)
-            (sym (p .check-a) ∙ other i 126 (omega arith) (λ e. omega arith) ∙ old .check-a))
-        go (inl x) (inr y) =
-            let e : w ≡ 126 = omega arith in
-            let t : check (word b' i) 126 ≡ check (word b i) 126 = check-ext (word b i) (word b' i) 126 (λ k l. other i k (omega arith) (λ z. omega arith)) in
-            new (ap (word b' i) e ∙ p .check-a ∙ ap (λ (q : Sums). q .a) t ∙ sym (old .check-a) ∙ ap (word b i) (sym e))
-        go (inl x) (inl y) =
-            let e : w ≡ 127 = omega (arith, c .in-block) in
-            let t : check (word b' i) 126 ≡ check (word b i) 126 = check-ext (word b i) (word b' i) 126 (λ k l. other i k (omega arith) (λ z. omega arith)) in
-            new (ap (word b' i) e ∙ p .check-b ∙ ap (λ (q : Sums). q .b) t ∙ sym (old .check-b) ∙ ap (word b i) (sym e))
+        sums : 126 ≤ w → check (word b' i) 126 ≡ check (word b i) 126
+        sums h = check-ext (word b i) (word b' i) 126 (λ k l. other i k (omega arith) (λ z. omega arith))
+
+        in-words : (u : ℕ) → u < 126 → w ≡ u → ⊥
+        in-words u x e =
+            new (a-tells (word b i) (word b' i) w 126 (omega arith) (λ k l z. other i k (omega arith) (λ y. z (omega arith))) (word-small b (c .bytes) i w) (word-small b' (c .bytes') i w)
+            (sym (p .check-a) ∙ other i 126 (omega arith) (λ y. omega arith) ∙ old .check-a))
+
+        in-a : w ≡ 126 → ⊥
+        in-a e = new (ap (word b' i) e ∙ p .check-a ∙ ap (λ (q : Sums). q .a) (sums (omega arith)) ∙ sym (old .check-a) ∙ ap (word b i) (sym e))
+
+        in-b : w ≡ 127 → ⊥
+        in-b e = new (ap (word b' i) e ∙ p .check-b ∙ ap (λ (q : Sums). q .b) (sums (omega arith)) ∙ sym (old .check-b) ∙ ap (word b i) (sym e))
 
     -- the blocks before it stay sound
-    earlier : (j : ℕ) → j < i → soundBlock (word b' j) j (blocks b') (depthOf b') ≡ true
+    earlier : (j : ℕ) → j < i → soundAt b' j ≡ true
     unfolding depthOf
     earlier j h =
         let d : word b' 0 2 ≡ word b 0 2 = other 0 2 (omega arith) (λ z. omega (arith, c .in-block)) in
-        rw (same-blocks, d) (carried (word b j) (word b' j) j (blocks b) (depthOf b) (λ v l. other j v l (λ z. omega (arith, c .in-block))) (parts b s j (omega (arith, c .block))))
+        rw (same-blocks, d) (same-words-sound (word b j) (word b' j) j (blocks b) (depthOf b) (λ v l. other j v l (λ z. omega (arith, c .in-block))) (right-words b s j (omega (arith, c .block))))
 
-    first-wrong : firstUnsound b' ≡ i
-    unfolding firstUnsound
-    first-wrong =
-        first-is (λ j. not (soundBlock (word b' j) j (blocks b') (depthOf b'))) (blocks b') i (omega (arith, c .block, same-blocks))
-        (ap not (sym (wrong (word b' i) i (blocks b') (depthOf b') (found (blocks b') (depthOf b')))))
-        (λ k h. ap not (earlier k h))
+    change-place : wrongAt b' ≡ i
+    change-place = first-wrong b' same-whole i (omega (arith, c .block, same-blocks)) (sym (wrong (word b' i) i (blocks b') (depthOf b') (found (blocks b') (depthOf b')))) earlier
 
     change-unsound : sound b' ≡ false
     unfolding sound
-    change-unsound = rw (same-whole, ne-eqb (firstUnsound b') (blocks b') (λ e. omega (arith, first-wrong, c .block, same-blocks)))
-
-    change-place : i ≡ wrongAt b'
-    unfolding wrongAt
-    change-place = sym (rw (wrongAt, same-whole) first-wrong)
+    change-unsound = rw (same-whole, ne-eqb (wrongAt b') (blocks b') (λ e. omega (arith, change-place, c .block, same-blocks)))
 
     -- ---- the calls: 9, at the block that was changed, and the reader's buffer as it was
 
     nine : (answer 9 i 0 ≡ answer 9 (wrongAt b') 0) × (sound b' ≡ false)
-    nine = (ap (λ (p : ℕ). answer 9 p 0) change-place, change-unsound)
+    nine = (ap (λ (p : ℕ). answer 9 p 0) (sym change-place), change-unsound)
 
     pub damage-checked : (r : Answer) → BlockCheckOf b' r → r ≡ answer 9 i 0
     damage-checked r d = one-check-blocks b' r (answer 9 i 0) d (inl (_, (nine .1, refl), nine .0))

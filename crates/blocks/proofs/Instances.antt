@@ -5,7 +5,7 @@ use mathlib.Core.Logic.{inl, inr}
 use mathlib.Core.List.{List, [], _∷_, _++_}
 use Prim.Native.Nat.{ℕ, _^_}
 use native.Mathlib.Omega.{arith}
-use lib.ListN.{replicate, length-replicate}
+use lib.ListN.{length, replicate, length-replicate}
 use Rattle.cells.specs.Answer.{answer, given}
 use Rattle.cells.specs.declared.Answer.{Answer}
 use Rattle.cells.proofs.Bools.{clash}
@@ -13,13 +13,14 @@ use Rattle.cells.proofs.Decisions.{passes}
 use Rattle.cells.specs.Cell.{level, index, span, start, holds}
 use Rattle.records.specs.Record.{black, Good}
 use Rattle.records.specs.Count.{count}
+use Rattle.records.specs.Fault.{firstFrom}
 use Rattle.records.proofs.CallLaws.{checked, no-fault}
 use Rattle.records.proofs.Instances.{check-holds}
 use Rattle.blocks.specs.Block.{check, blocks, whole, sound, wrongAt}
 use Rattle.blocks.specs.File.{plain, fileOf}
 use Rattle.blocks.specs.Calls.{BlockCheckOf, StoredVolumeOf, ReadOf, WriteOf}
 use Rattle.blocks.specs.declared.Reading.{Reading}
-use Rattle.blocks.proofs.RoundTrip.{Storable, good-storable, file-sound, file-depth, file-leaves, file-codes}
+use Rattle.blocks.proofs.RoundTrip.{Storable, good-storable, file-sound, file-depth, file-codes}
 use Rattle.blocks.proofs.CallLaws.{one-check-blocks, one-stored-volume, one-read, one-write}
 use Rattle.blocks.proofs.Theorems.{writes-good, reads-file}
 
@@ -45,11 +46,11 @@ storable : Storable 3 one
 storable = good-storable 3 one (omega arith) good
 
 pub block-check-holds : BlockCheckOf (fileOf 3 one) (given 1)
-block-check-holds = inr (passes (clash (file-sound 3 one storable)), ap given (sym (file-leaves 3 one storable)))
+block-check-holds = inr (passes (clash (file-sound 3 one storable)), ap (λ (l : List ℕ). given (length l)) (sym (file-codes 3 one storable)))
 
 -- no byte at all: 9, with no whole block
 pub block-check-refuses : BlockCheckOf [] (answer 9 0 0)
-unfolding blocks whole sound wrongAt
+unfolding blocks whole sound wrongAt firstFrom
 block-check-refuses = inl (_, (refl, refl), refl)
 
 pub block-check-fails : BlockCheckOf [] (given 0) → ⊥

@@ -1,5 +1,5 @@
 -- The mathematics of stored blocks, from the bottom up:
--- tables, and a list written over the front of another
+-- tabulated numbers, and their stores one after the other
 pub mod Tables
 -- what is right in a sound block and a sound file; words and their bytes
 pub mod Sound
@@ -12,3 +12,4 @@ pub mod CallLaws
 pub mod Theorems
 pub mod Damage
 pub mod Instances
+pub mod Former

@@ -1,6 +1,6 @@
 -- The file of a list is sound and holds the list; a sound file is the file of the list that it holds. Assumes nothing.
 use mathlib.Core.Path.{_≡_, refl, sym, ap, _∙_}
-use mathlib.Core.Bool.{true, not}
+use mathlib.Core.Bool.{true}
 use mathlib.Core.List.{List}
 use mathlib.Core.Logic.{_⊎_, inl, inr, ⊎-elim}
 use Prim.Native.Nat.{ℕ, zero, suc, _+_, _-_, _*_, _/_, _%_, _^_, _≤_, _<_, min}
@@ -17,14 +17,13 @@ use Rattle.cells.proofs.Cells.{level-le, proper-bounds}
 use Rattle.records.specs.Record.{Good}
 use Rattle.records.proofs.Leaves.{member}
 use Rattle.records.proofs.Fault.{member-at, all-made}
-use Rattle.records.proofs.First.{first-none}
 use Rattle.records.proofs.Most.{few-leaves}
 use Rattle.blocks.specs.declared.Sums.{Sums}
-use Rattle.blocks.specs.Block.{word, check, rightCount, soundBlock, blocks, whole, depthOf, firstUnsound, sound, leaves, code, codes}
+use Rattle.blocks.specs.Block.{word, check, rightCount, blocks, whole, depthOf, sound, wrongAt, codes}
 use Rattle.blocks.specs.File.{blocksOf, plain, words, byteOf, fileOf}
 use Rattle.blocks.proofs.Files.{plain-code, words-plain, words-a, words-b, file-length, file-byte}
-use Rattle.blocks.proofs.Sound.{Parts, parts, some-block, all-blocks, codes-length, code-is}
-use Rattle.blocks.proofs.Words.{word-of-bytes, bytes-of-word, check-ext, check-small, carried}
+use Rattle.blocks.proofs.Sound.{RightWords, soundAt, none-wrong, codes-length, codes-at, some-block, all-blocks, right-words}
+use Rattle.blocks.proofs.Words.{word-of-bytes, bytes-of-word, each-word, check-ext, check-small, same-words-sound}
 
 -- ---- a list that blocks can hold
 
@@ -56,66 +55,45 @@ right-made n i k a b c = ⊎-elim (λ (x : n ≤ i + 1). last x (le-or-lt 1 k)) 
     last x (inr y) = rw (rightCount, le-ltb (i + 1) n x, le-leb k 122 b, lt-leb 1 k y, eq-eqb n 1 (c (omega arith)))
 
 module _ (D : ℕ) (l : List ℕ) (s : Storable D l) where
-  plain-small : (i w : ℕ) → i < blocksOf (length l) → plain D l i w < 2 ^ 32
+  plain-small : (i w : ℕ) → i < blocksOf (length l) → w < 126 → plain D l i w < 2 ^ 32
   unfolding plain
-  plain-small i zero h = omega (arith, s .few)
-  plain-small i (suc zero) h = s .few
-  plain-small i (suc (suc zero)) h = omega (arith, s .shallow)
-  plain-small i (suc (suc (suc zero))) h = omega arith
-  plain-small i (suc (suc (suc (suc w)))) h = s .small (122 * i + w)
+  plain-small i zero h k = omega (arith, s .few)
+  plain-small i (suc zero) h k = s .few
+  plain-small i (suc (suc zero)) h k = omega (arith, s .shallow)
+  plain-small i (suc (suc (suc zero))) h k = omega arith
+  plain-small i (suc (suc (suc (suc w)))) h k =
+      let u : ℕ = suc (suc (suc (suc w))) in omega (arith, plain-code D l i u (omega arith) k, s .small (122 * i + (u - 4)))
 
-  words-small : (i w : ℕ) → i < blocksOf (length l) → w < 128 → words D l i w < 2 ^ 32
-  words-small i w h k = go (le-or-lt 126 w) (le-or-lt 127 w)
-    where
-      go : (126 ≤ w) ⊎ (w < 126) → (127 ≤ w) ⊎ (w < 127) → words D l i w < 2 ^ 32
-      go (inr x) y = omega (arith, words-plain D l i w x, plain-small i w h)
-      go (inl x) (inr y) = let e : w ≡ 126 = omega arith in omega (arith, ap (words D l i) e, words-a D l i, check-small (plain D l i) 126)
-      go (inl x) (inl y) = let e : w ≡ 127 = omega arith in omega (arith, ap (words D l i) e, words-b D l i, check-small (plain D l i) 126)
+  words-small : (i : ℕ) → i < blocksOf (length l) → (w : ℕ) → w < 128 → words D l i w < 2 ^ 32
+  words-small i h =
+      each-word (λ w. words D l i w < 2 ^ 32) (λ w k. omega (arith, words-plain D l i w k, plain-small i w h k)) (omega (arith, words-a D l i, check-small (plain D l i) 126))
+      (omega (arith, words-b D l i, check-small (plain D l i) 126))
 
   word-file : (i w : ℕ) → i < blocksOf (length l) → w < 128 → word (fileOf D l) i w ≡ words D l i w
-  word-file i w h k = word-of-bytes (fileOf D l) i w (words D l i w) (words-small i w h k) (λ j x. file-byte D l i w j (512 * i + 4 * w + j) h k x refl)
-
-  w0 : (i : ℕ) → words D l i 0 ≡ i
-  unfolding plain
-  w0 i = words-plain D l i 0 (omega arith)
-
-  w1 : (i : ℕ) → words D l i 1 ≡ blocksOf (length l)
-  unfolding plain
-  w1 i = words-plain D l i 1 (omega arith)
-
-  w2 : (i : ℕ) → words D l i 2 ≡ D
-  unfolding plain
-  w2 i = words-plain D l i 2 (omega arith)
-
-  w3 : (i : ℕ) → words D l i 3 ≡ min 122 (length l - 122 * i)
-  unfolding plain
-  w3 i = words-plain D l i 3 (omega arith)
+  word-file i w h k = word-of-bytes (fileOf D l) i w (words D l i w) (words-small i h w k) (λ j x. file-byte D l i w j (512 * i + 4 * w + j) h k x refl)
 
   -- each block of the file is sound
-  words-parts : (i : ℕ) → i < blocksOf (length l) → Parts (words D l i) i (blocksOf (length l)) D
-  words-parts i h =
-      let full : i + 1 < blocksOf (length l) → words D l i 3 ≡ 122 = λ x. omega (arith, w3 i) in
-      let most : words D l i 3 ≤ 122 = omega (arith, w3 i) in
-      let some : words D l i 3 ≡ 0 → blocksOf (length l) ≡ 1 = λ x. omega (arith, w3 i) in
+  words-right : (i : ℕ) → i < blocksOf (length l) → RightWords (words D l i) i (blocksOf (length l)) D
+  unfolding plain
+  words-right i h =
+      let depth : words D l i 2 ≡ D = words-plain D l i 2 (omega arith) in
+      let held : words D l i 3 ≡ min 122 (length l - 122 * i) = words-plain D l i 3 (omega arith) in
+      let beyond : (w : ℕ) → 4 + words D l i 3 ≤ w → w < 126 → words D l i w ≡ 0 = λ w lo hi. words-plain D l i w hi ∙ plain-code D l i w (omega arith) hi ∙ List·getD-eq-default l 0 (omega arith) in
       let sums : check (words D l i) 126 ≡ check (plain D l i) 126 = check-ext (plain D l i) (words D l i) 126 (λ k x. words-plain D l i k x) in
       record {
-        index = w0 i;
-        number = w1 i;
-        shallow = omega (arith, w2 i, s .shallow);
-        depth = w2 i;
-        count = right-made (blocksOf (length l)) i (words D l i 3) full most some;
-        full = full;
-        most = most;
-        some = λ x. omega (arith, some x);
+        index = words-plain D l i 0 (omega arith);
+        number = words-plain D l i 1 (omega arith);
+        shallow = omega (arith, s .shallow);
+        depth = depth;
+        count = right-made (blocksOf (length l)) i (words D l i 3) (λ x. omega arith) (omega arith) (λ x. omega arith);
+        full = λ x. omega arith;
+        most = omega arith;
+        some = λ x. omega arith;
         zeros = all-made (λ w. eqb (words D l i w) 0) (4 + words D l i 3) (122 - words D l i 3) (λ w lo hi. eq-eqb (words D l i w) 0 (beyond w lo (omega arith)));
         unused = beyond;
         check-a = words-a D l i ∙ ap (λ (x : Sums). x .a) (sym sums);
         check-b = words-b D l i ∙ ap (λ (x : Sums). x .b) (sym sums);
       }
-    where
-      beyond : (w : ℕ) → 4 + words D l i 3 ≤ w → w < 126 → words D l i w ≡ 0
-      beyond w lo hi =
-          words-plain D l i w hi ∙ plain-code D l i w (omega arith) ∙ List·getD-eq-default l 0 (omega (arith, w3 i))
 
   file-blocks : blocks (fileOf D l) ≡ blocksOf (length l)
   unfolding blocks
@@ -123,34 +101,36 @@ module _ (D : ℕ) (l : List ℕ) (s : Storable D l) where
 
   pub file-depth : depthOf (fileOf D l) ≡ D
   unfolding depthOf
-  file-depth = word-file 0 2 (omega arith) (omega arith) ∙ w2 0
+  file-depth = word-file 0 2 (omega arith) (omega arith) ∙ words-right 0 (omega arith) .depth
 
   pub file-sound : sound (fileOf D l) ≡ true
-  unfolding sound whole firstUnsound
+  unfolding sound whole
   file-sound =
-      rw (file-blocks, file-depth)
-      (rw (le-leb 1 (blocksOf (length l)) (omega arith), eq-eqb (length (fileOf D l) % 512) 0 (omega (arith, file-length D l)))
-      (eq-eqb _ (blocksOf (length l))
-      (first-none (λ i. not (soundBlock (word (fileOf D l) i) i (blocksOf (length l)) D)) (blocksOf (length l))
-      (λ i h. ap not (carried (words D l i) (word (fileOf D l) i) i (blocksOf (length l)) D (λ w k. word-file i w h k) (words-parts i h))))))
+      let w : whole (fileOf D l) ≡ true = rw (le-leb 1 (blocks (fileOf D l)) (omega (arith, file-blocks)), eq-eqb (length (fileOf D l) % 512) 0 (omega (arith, file-length D l))) in
+      rw (w, eq-eqb (wrongAt (fileOf D l)) (blocks (fileOf D l)) (none-wrong (fileOf D l) w right-at))
+    where
+      right-at : (i : ℕ) → i < blocks (fileOf D l) → soundAt (fileOf D l) i ≡ true
+      right-at i h =
+          rw (file-blocks, file-depth)
+          (same-words-sound (words D l i) (word (fileOf D l) i) i (blocksOf (length l)) D (λ w k. word-file i w (omega (arith, file-blocks)) k) (words-right i (omega (arith, file-blocks))))
 
-  pub file-leaves : leaves (fileOf D l) ≡ length l
-  unfolding leaves
-  file-leaves =
-      rw file-blocks
-      (omega (arith, word-file (blocksOf (length l) - 1) 3 (omega arith) (omega arith), w3 (blocksOf (length l) - 1)))
+  -- what the last block holds
+  held-last : words D l (blocksOf (length l) - 1) 3 ≡ min 122 (length l - 122 * (blocksOf (length l) - 1))
+  unfolding plain
+  held-last = words-plain D l (blocksOf (length l) - 1) 3 (omega arith)
 
   pub file-codes : codes (fileOf D l) ≡ l
-  unfolding code
-  file-codes =
-      ext-getD 0 (codes (fileOf D l)) l (codes-length (fileOf D l) ∙ file-leaves) (λ j h. at j (omega (arith, codes-length (fileOf D l), file-leaves)))
+  file-codes = ext-getD 0 (codes (fileOf D l)) l size (λ j h. at j (omega (arith, size)))
     where
+      size : length (codes (fileOf D l)) ≡ length l
+      size = codes-length (fileOf D l) ∙ rw file-blocks (omega (arith, word-file (blocksOf (length l) - 1) 3 (omega arith) (omega arith), held-last))
+
       at : (j : ℕ) → j < length l → getD (codes (fileOf D l)) j 0 ≡ getD l j 0
       at j h =
-          code-is (fileOf D l) j (omega (arith, file-leaves))
+          codes-at (fileOf D l) j (omega (arith, size))
           ∙ word-file (j / 122) (4 + j % 122) (omega arith) (omega arith)
           ∙ words-plain D l (j / 122) (4 + j % 122) (omega arith)
-          ∙ plain-code D l (j / 122) (4 + j % 122) (omega arith)
+          ∙ plain-code D l (j / 122) (4 + j % 122) (omega arith) (omega arith)
           ∙ ap (λ (n : ℕ). getD l n 0) (omega arith)
 
 -- ---- a sound file is the file of its codes
@@ -159,61 +139,47 @@ count-blocks : (n k m : ℕ) → 1 ≤ n → k ≤ 122 → (k ≡ 0 → n ≤ 1)
 count-blocks n k m a b c e = ⊎-elim (λ (x : 1 ≤ k). omega arith) (λ (x : k < 1). omega (arith, c (omega arith))) (le-or-lt 1 k)
 
 module _ (b : List ℕ) (s : sound b ≡ true) where
-  leaves-is : leaves b ≡ 122 * (blocks b - 1) + word b (blocks b - 1) 3
-  unfolding leaves
-  leaves-is = refl
-
   pub same-blocks : blocksOf (length (codes b)) ≡ blocks b
   same-blocks =
-      let p = parts b s (blocks b - 1) (omega (arith, some-block b s)) in
-      count-blocks (blocks b) (word b (blocks b - 1) 3) (length (codes b)) (some-block b s) (p .most) (p .some) (codes-length b ∙ leaves-is)
+      let p = right-words b s (blocks b - 1) (omega (arith, some-block b s)) in
+      count-blocks (blocks b) (word b (blocks b - 1) 3) (length (codes b)) (some-block b s) (p .most) (p .some) (codes-length b)
 
   module _ (i : ℕ) (h : i < blocks b) where
-    p : Parts (word b i) i (blocks b) (depthOf b)
-    p = parts b s i h
+    p : RightWords (word b i) i (blocks b) (depthOf b)
+    p = right-words b s i h
 
     -- how many codes block i holds, counted from the file's end
-    held-here : min 122 (leaves b - 122 * i) ≡ word b i 3
-    held-here = ⊎-elim (λ (x : blocks b ≤ i + 1). at-last (omega arith)) (λ (x : i + 1 < blocks b). omega (arith, p .full x, leaves-is)) (le-or-lt (blocks b) (i + 1))
+    held-here : min 122 (length (codes b) - 122 * i) ≡ word b i 3
+    held-here = ⊎-elim (λ (x : blocks b ≤ i + 1). at-last (omega arith)) (λ (x : i + 1 < blocks b). omega (arith, p .full x, codes-length b)) (le-or-lt (blocks b) (i + 1))
       where
-        at-last : i ≡ blocks b - 1 → min 122 (leaves b - 122 * i) ≡ word b i 3
-        at-last e = omega (arith, leaves-is, p .most, ap (λ (n : ℕ). word b n 3) e)
+        at-last : i ≡ blocks b - 1 → min 122 (length (codes b) - 122 * i) ≡ word b i 3
+        at-last e = omega (arith, codes-length b, p .most, ap (λ (n : ℕ). word b n 3) e)
 
-    a-code : (w : ℕ) → 4 ≤ w → w < 126 → getD (codes b) (122 * i + (w - 4)) 0 ≡ word b i w
-    unfolding code
-    a-code w lo hi = ⊎-elim (λ (x : leaves b ≤ 122 * i + (w - 4)). none x) (λ (x : 122 * i + (w - 4) < leaves b). one x) (le-or-lt (leaves b) (122 * i + (w - 4)))
+    code-same : (w : ℕ) → 4 ≤ w → w < 126 → getD (codes b) (122 * i + (w - 4)) 0 ≡ word b i w
+    code-same w lo hi = ⊎-elim (λ (x : length (codes b) ≤ 122 * i + (w - 4)). none x) (λ (x : 122 * i + (w - 4) < length (codes b)). one x) (le-or-lt (length (codes b)) (122 * i + (w - 4)))
       where
-        none : leaves b ≤ 122 * i + (w - 4) → getD (codes b) (122 * i + (w - 4)) 0 ≡ word b i w
-        none x = List·getD-eq-default (codes b) 0 (omega (arith, codes-length b)) ∙ sym (p .unused w (omega (arith, held-here)) hi)
+        none : length (codes b) ≤ 122 * i + (w - 4) → getD (codes b) (122 * i + (w - 4)) 0 ≡ word b i w
+        none x = List·getD-eq-default (codes b) 0 x ∙ sym (p .unused w (omega (arith, held-here)) hi)
 
-        one : 122 * i + (w - 4) < leaves b → getD (codes b) (122 * i + (w - 4)) 0 ≡ word b i w
+        one : 122 * i + (w - 4) < length (codes b) → getD (codes b) (122 * i + (w - 4)) 0 ≡ word b i w
         one x =
             let q : (122 * i + (w - 4)) / 122 ≡ i = omega arith in
             let r : 4 + (122 * i + (w - 4)) % 122 ≡ w = omega arith in
-            code-is b (122 * i + (w - 4)) x ∙ rw (q, r)
+            codes-at b (122 * i + (w - 4)) x ∙ rw (q, r)
 
     plain-same : (w : ℕ) → w < 126 → plain (depthOf b) (codes b) i w ≡ word b i w
     unfolding plain
     plain-same zero k = sym (p .index)
     plain-same (suc zero) k = same-blocks ∙ sym (p .number)
     plain-same (suc (suc zero)) k = sym (p .depth)
-    plain-same (suc (suc (suc zero))) k = ap (λ (n : ℕ). min 122 (n - 122 * i)) (codes-length b) ∙ held-here
-    plain-same (suc (suc (suc (suc w)))) k = plain-code (depthOf b) (codes b) i (suc (suc (suc (suc w)))) (omega arith) ∙ a-code (suc (suc (suc (suc w)))) (omega arith) k
+    plain-same (suc (suc (suc zero))) k = held-here
+    plain-same (suc (suc (suc (suc w)))) k = plain-code (depthOf b) (codes b) i (suc (suc (suc (suc w)))) (omega arith) k ∙ code-same (suc (suc (suc (suc w)))) (omega arith) k
 
     words-same : (w : ℕ) → w < 128 → words (depthOf b) (codes b) i w ≡ word b i w
-    words-same w k = go (le-or-lt 126 w) (le-or-lt 127 w)
-      where
-        sums : check (plain (depthOf b) (codes b) i) 126 ≡ check (word b i) 126
-        sums = check-ext (word b i) (plain (depthOf b) (codes b) i) 126 plain-same
-
-        go : (126 ≤ w) ⊎ (w < 126) → (127 ≤ w) ⊎ (w < 127) → words (depthOf b) (codes b) i w ≡ word b i w
-        go (inr x) y = words-plain (depthOf b) (codes b) i w x ∙ plain-same w x
-        go (inl x) (inr y) =
-            let e : w ≡ 126 = omega arith in
-            ap (words (depthOf b) (codes b) i) e ∙ words-a (depthOf b) (codes b) i ∙ ap (λ (q : Sums). q .a) sums ∙ sym (p .check-a) ∙ ap (word b i) (sym e)
-        go (inl x) (inl y) =
-            let e : w ≡ 127 = omega arith in
-            ap (words (depthOf b) (codes b) i) e ∙ words-b (depthOf b) (codes b) i ∙ ap (λ (q : Sums). q .b) sums ∙ sym (p .check-b) ∙ ap (word b i) (sym e)
+    words-same =
+        let sums : check (plain (depthOf b) (codes b) i) 126 ≡ check (word b i) 126 = check-ext (word b i) (plain (depthOf b) (codes b) i) 126 plain-same in
+        each-word (λ w. words (depthOf b) (codes b) i w ≡ word b i w) (λ w k. words-plain (depthOf b) (codes b) i w k ∙ plain-same w k)
+        (words-a (depthOf b) (codes b) i ∙ ap (λ (q : Sums). q .a) sums ∙ sym (p .check-a)) (words-b (depthOf b) (codes b) i ∙ ap (λ (q : Sums). q .b) sums ∙ sym (p .check-b))
 
   pub same-file : ((k : ℕ) → getD b k 0 < 256) → fileOf (depthOf b) (codes b) ≡ b
   same-file bytes = ext-getD 0 (fileOf (depthOf b) (codes b)) b size (λ j h. at j (omega (arith, size)))

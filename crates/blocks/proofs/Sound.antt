@@ -1,10 +1,9 @@
--- What a sound block and a sound file say; the check, turn by turn. Assumes nothing.
-use mathlib.Core.Path.{_≡_, refl, sym, ap, _∙_}
-use mathlib.Core.Bool.{true, false, not, _||_}
+-- What a sound block and a sound file say. Assumes nothing.
+use mathlib.Core.Path.{_≡_, sym}
+use mathlib.Core.Bool.{Bool, true, false, not, _&&_, _||_}
 use mathlib.Core.List.{List}
 use mathlib.Core.Logic.{⊎-elim}
-use Prim.Native.Nat.{ℕ, _+_, _-_, _*_, _/_, _%_, _^_, _≤_, _<_}
-use native.Mathlib.Numerals.{add-one}
+use Prim.Native.Nat.{ℕ, _+_, _-_, _*_, _/_, _%_, _≤_, _<_}
 use native.Mathlib.Omega.{arith}
 use lib.Dec.{leb, eqb}
 use lib.ListN.{length, getD}
@@ -13,29 +12,13 @@ use Rattle.cells.specs.Answer.{deepest}
 use Rattle.cells.proofs.Power.{le-or-lt}
 use Rattle.cells.proofs.Bools.{both-true, refuted}
 use Rattle.records.proofs.Fill.{all-true}
-use Rattle.records.proofs.First.{first-miss}
-use Rattle.blocks.specs.declared.Sums.{Sums}
-use Rattle.blocks.specs.Block.{word, check, rightCount, unusedZero, rightCheck, soundBlock, blocks, whole, depthOf, firstUnsound, sound, wrongAt, leaves, code, codes}
-use Rattle.blocks.proofs.Tables.{length-table, getD-table}
-
--- ---- the check
-
-pub check-zero : (v : ℕ → ℕ) → (1 ≡ check v 0 .a) × (0 ≡ check v 0 .b)
-unfolding check
-check-zero v = (refl, refl)
-
--- a turn of a loop that sums, and its end
-pub check-turn : (v : ℕ → ℕ) (n a b a' b' x : ℕ) → a ≡ check v n .a → b ≡ check v n .b → x ≡ v n → a' ≡ (a + x) % 2 ^ 32 → b' ≡ (b + a') % 2 ^ 32
-    → (a' ≡ check v (n + 1) .a) × (b' ≡ check v (n + 1) .b)
-unfolding check
-check-turn v n a b a' b' x p q r s t = rw (add-one n, ← p, ← q, ← r) (s, t ∙ ap (λ (y : ℕ). (b + y) % 2 ^ 32) s)
-
-pub check-done : (v : ℕ → ℕ) (n m a b : ℕ) → n ≡ m → a ≡ check v n .a → b ≡ check v n .b → _≡_ {A = Sums} (record { a = a; b = b }) (check v m)
-check-done v n m a b e p q = rw (p, q) (ap (check v) e)
+use Rattle.records.proofs.First.{first-is, first-none, first-miss}
+use Rattle.blocks.specs.Block.{blockBytes, blockCodes, word, check, rightCount, unusedZero, rightCheck, soundBlock, blocks, whole, depthOf, sound, wrongAt, codes}
+use Rattle.blocks.proofs.Tables.{length-tabulated, getD-tabulated}
 
 -- ---- a block: what each of its words is, where all are right
 
-pub record Parts (v : ℕ → ℕ) (i n D : ℕ) : Type 0 where
+pub record RightWords (v : ℕ → ℕ) (i n D : ℕ) : Type 0 where
   pub index : v 0 ≡ i
   pub number : v 1 ≡ n
   pub shallow : v 2 ≤ deepest
@@ -63,9 +46,9 @@ right-last n i k h t =
 pub right-most : (n i k : ℕ) → rightCount n i k ≡ true → k ≤ 122
 right-most n i k e = ⊎-elim (λ (l : n ≤ i + 1). right-last n i k l e .0) (λ (l : i + 1 < n). omega (arith, right-inner n i k l e)) (le-or-lt n (i + 1))
 
-pub sound-parts : (v : ℕ → ℕ) (i n D : ℕ) → soundBlock v i n D ≡ true → Parts v i n D
+pub sound-words : (v : ℕ → ℕ) (i n D : ℕ) → soundBlock v i n D ≡ true → RightWords v i n D
 unfolding soundBlock
-sound-parts v i n D t =
+sound-words v i n D t =
     let (a, t1) = both-true _ _ t in
     let (b, t2) = both-true _ _ t1 in
     let (c, t3) = both-true _ _ t2 in
@@ -94,79 +77,88 @@ unfolding soundBlock
 sound-last v i n D a b c d e f = rw (soundBlock, eq-eqb (v 0) i a, eq-eqb (v 1) n b, le-leb (v 2) deepest c, eq-eqb (v 2) D d, e, f)
 
 -- a block with a wrong word
-pub wrong : (v : ℕ → ℕ) (i n D : ℕ) → (Parts v i n D → ⊥) → false ≡ soundBlock v i n D
-wrong v i n D h = sym (refuted (soundBlock v i n D) (λ t. h (sound-parts v i n D t)))
+pub wrong : (v : ℕ → ℕ) (i n D : ℕ) → (RightWords v i n D → ⊥) → false ≡ soundBlock v i n D
+wrong v i n D h = sym (refuted (soundBlock v i n D) (λ t. h (sound-words v i n D t)))
 
 -- ---- whether the file is whole, and sound
 
-pub no-block : (b : List ℕ) → length b / 512 ≡ 0 → whole b ≡ false
+pub no-block : (b : List ℕ) → length b / blockBytes ≡ 0 → whole b ≡ false
 unfolding whole blocks
-no-block b e = rw (lt-leb 1 (length b / 512) (omega arith))
+no-block b e = rw (lt-leb 1 (length b / blockBytes) (omega arith))
 
-pub a-rest : (b : List ℕ) → (length b / 512 ≡ 0 → ⊥) → (length b % 512 ≡ 0 → ⊥) → whole b ≡ false
+pub a-rest : (b : List ℕ) → (length b / blockBytes ≡ 0 → ⊥) → (length b % blockBytes ≡ 0 → ⊥) → whole b ≡ false
 unfolding whole blocks
-a-rest b h e = rw (le-leb 1 (length b / 512) (omega arith), ne-eqb (length b % 512) 0 e)
+a-rest b h e = rw (le-leb 1 (length b / blockBytes) (omega arith), ne-eqb (length b % blockBytes) 0 e)
 
-pub is-whole : (b : List ℕ) → (length b / 512 ≡ 0 → ⊥) → length b % 512 ≡ 0 → whole b ≡ true
+pub is-whole : (b : List ℕ) → (length b / blockBytes ≡ 0 → ⊥) → length b % blockBytes ≡ 0 → whole b ≡ true
 unfolding whole blocks
-is-whole b h e = rw (le-leb 1 (length b / 512) (omega arith), eq-eqb (length b % 512) 0 e)
+is-whole b h e = rw (le-leb 1 (length b / blockBytes) (omega arith), eq-eqb (length b % blockBytes) 0 e)
 
-pub not-whole : (b : List ℕ) → whole b ≡ false → (false ≡ sound b) × (length b / 512 ≡ wrongAt b)
+-- block i of the file
+abbrev pub soundAt : List ℕ → ℕ → Bool
+soundAt b i = soundBlock (word b i) i (blocks b) (depthOf b)
+
+pub not-whole : (b : List ℕ) → whole b ≡ false → (false ≡ sound b) × (length b / blockBytes ≡ wrongAt b)
 unfolding sound wrongAt blocks
-not-whole b e = (rw e, rw (wrongAt, e))
+not-whole b e = (rw e, sym (first-none (λ i. whole b && not (soundAt b i)) (blocks b) (λ k h. rw e)))
 
-pub by-blocks : (b : List ℕ) (i n : ℕ) → whole b ≡ true → n ≡ blocks b → i ≡ firstUnsound b → (eqb i n ≡ sound b) × (i ≡ wrongAt b)
-unfolding sound wrongAt
-by-blocks b i n e p q = (rw (e, p, q), rw (wrongAt, e) q)
+-- a whole file: its blocks, and the first wrong one
+pub whole-blocks : (b : List ℕ) → whole b ≡ true → (1 ≤ blocks b) × (blockBytes * blocks b ≡ length b)
+unfolding whole blocks
+whole-blocks b w =
+    let (some, rest) = both-true (leb 1 (length b / blockBytes)) (eqb (length b % blockBytes) 0) w in
+    (leb-true 1 (length b / blockBytes) some, omega (arith, eqb-true (length b % blockBytes) 0 rest))
+
+module _ (b : List ℕ) (w : whole b ≡ true) where
+  pub right-before : (i : ℕ) → i < wrongAt b → soundAt b i ≡ true
+  unfolding wrongAt
+  right-before i h = not-false (soundAt b i) (rw w at (first-miss (λ j. whole b && not (soundAt b j)) (blocks b) i h))
+
+  pub first-wrong : (i : ℕ) → i < blocks b → soundAt b i ≡ false → ((k : ℕ) → k < i → soundAt b k ≡ true) → wrongAt b ≡ i
+  unfolding wrongAt
+  first-wrong i h e before = first-is (λ j. whole b && not (soundAt b j)) (blocks b) i h (rw (w, e)) (λ k l. rw (w, before k l))
+
+  pub none-wrong : ((k : ℕ) → k < blocks b → soundAt b k ≡ true) → wrongAt b ≡ blocks b
+  unfolding wrongAt
+  none-wrong all = first-none (λ j. whole b && not (soundAt b j)) (blocks b) (λ k l. rw (w, all k l))
+
+-- ---- the codes
+
+pub codes-length : (b : List ℕ) → length (codes b) ≡ blockCodes * (blocks b - 1) + word b (blocks b - 1) 3
+unfolding codes
+codes-length b = length-tabulated _ _
+
+pub codes-at : (b : List ℕ) (j : ℕ) → j < length (codes b) → getD (codes b) j 0 ≡ word b (j / blockCodes) (4 + j % blockCodes)
+unfolding codes
+codes-at b j h = getD-tabulated (λ j. word b (j / blockCodes) (4 + j % blockCodes)) _ j (omega (arith, codes-length b))
 
 -- ---- a sound file
 
 module _ (b : List ℕ) (s : sound b ≡ true) where
   pub sound-whole : whole b ≡ true
   unfolding sound
-  sound-whole = both-true (whole b) (eqb (firstUnsound b) (blocks b)) s .0
+  sound-whole = both-true (whole b) (eqb (wrongAt b) (blocks b)) s .0
 
   pub some-block : 1 ≤ blocks b
-  unfolding whole
-  some-block = leb-true 1 (blocks b) (both-true (leb 1 (blocks b)) (eqb (length b % 512) 0) sound-whole .0)
+  some-block = whole-blocks b sound-whole .0
 
-  pub all-blocks : 512 * blocks b ≡ length b
-  unfolding whole blocks
-  all-blocks = omega (arith, eqb-true (length b % 512) 0 (both-true (leb 1 (length b / 512)) (eqb (length b % 512) 0) sound-whole .1))
-
-  none-unsound : firstUnsound b ≡ blocks b
-  unfolding sound
-  none-unsound = eqb-true (firstUnsound b) (blocks b) (both-true (whole b) (eqb (firstUnsound b) (blocks b)) s .1)
+  pub all-blocks : blockBytes * blocks b ≡ length b
+  all-blocks = whole-blocks b sound-whole .1
 
   pub wrong-is : wrongAt b ≡ blocks b
-  unfolding wrongAt
-  wrong-is = rw (wrongAt, sound-whole) none-unsound
+  unfolding sound
+  wrong-is = eqb-true (wrongAt b) (blocks b) (both-true (whole b) (eqb (wrongAt b) (blocks b)) s .1)
 
-  block-sound : (i : ℕ) → i < blocks b → soundBlock (word b i) i (blocks b) (depthOf b) ≡ true
-  unfolding firstUnsound
-  block-sound i h = not-false (soundBlock (word b i) i (blocks b) (depthOf b)) (first-miss (λ j. not (soundBlock (word b j) j (blocks b) (depthOf b))) (blocks b) i (omega (arith, none-unsound)))
-
-  pub parts : (i : ℕ) → i < blocks b → Parts (word b i) i (blocks b) (depthOf b)
-  parts i h = sound-parts (word b i) i (blocks b) (depthOf b) (block-sound i h)
+  pub right-words : (i : ℕ) → i < blocks b → RightWords (word b i) i (blocks b) (depthOf b)
+  right-words i h = sound-words (word b i) i (blocks b) (depthOf b) (right-before b sound-whole i (omega (arith, wrong-is)))
 
   pub shallow-file : depthOf b ≤ deepest
   unfolding depthOf
-  shallow-file = parts 0 (omega (arith, some-block)) .shallow
+  shallow-file = right-words 0 (omega (arith, some-block)) .shallow
 
-  pub leaves-most : leaves b ≤ 122 * blocks b
-  unfolding leaves
-  leaves-most = omega (arith, some-block, parts (blocks b - 1) (omega (arith, some-block)) .most)
+  pub codes-most : length (codes b) ≤ blockCodes * blocks b
+  codes-most = omega (arith, codes-length b, some-block, right-words (blocks b - 1) (omega (arith, some-block)) .most)
 
-  -- a leaf's word lies in the file
-  pub leaf-within : (j : ℕ) → j < leaves b → 512 * (j / 122) + 512 ≤ length b
-  leaf-within j h = omega (arith, leaves-most, all-blocks)
-
--- ---- the codes
-
-pub codes-length : (b : List ℕ) → length (codes b) ≡ leaves b
-unfolding codes
-codes-length b = length-table (code b) (leaves b)
-
-pub code-is : (b : List ℕ) (j : ℕ) → j < leaves b → getD (codes b) j 0 ≡ code b j
-unfolding codes
-code-is b j h = getD-table (code b) (leaves b) j h
+  -- a code's word lies in the file
+  pub code-within : (j : ℕ) → j < length (codes b) → blockBytes * (j / blockCodes) + blockBytes ≤ length b
+  code-within j h = omega (arith, codes-most, all-blocks)

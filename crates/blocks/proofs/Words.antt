@@ -1,17 +1,19 @@
 -- Words and their bytes; a block's words carried from one function to another. Assumes nothing.
-use mathlib.Core.Path.{_≡_, refl, sym, ap, _∙_}
+use mathlib.Core.Path.{_≡_, refl, sym, ap, subst, _∙_}
 use mathlib.Core.Bool.{true}
 use mathlib.Core.List.{List}
+use mathlib.Core.Logic.{_⊎_, inl, inr}
 use Prim.Native.Nat.{ℕ, zero, suc, _+_, _-_, _*_, _%_, _^_, _≤_, _<_}
 use native.Mathlib.Omega.{arith}
 use lib.Dec.{eqb}
 use lib.ListN.{getD}
 use borrow.Author.Tests.{eq-eqb}
+use Rattle.cells.proofs.Power.{le-or-lt}
 use Rattle.records.proofs.Fault.{all-made}
 use Rattle.blocks.specs.declared.Sums.{Sums}
 use Rattle.blocks.specs.Block.{word, check, rightCount, soundBlock}
 use Rattle.blocks.specs.File.{byteOf}
-use Rattle.blocks.proofs.Sound.{Parts, sound-last}
+use Rattle.blocks.proofs.Sound.{RightWords, sound-last}
 
 -- ---- a word and its bytes
 
@@ -42,6 +44,15 @@ pub word-small : (b : List ℕ) → ((k : ℕ) → getD b k 0 < 256) → (i w : 
 unfolding word
 word-small b h i w = omega (arith, h (512 * i + 4 * w), h (512 * i + 4 * w + 1), h (512 * i + 4 * w + 2), h (512 * i + 4 * w + 3))
 
+-- what holds of the words before the check and of the check's holds of all
+pub each-word : (P : ℕ → Type 0) → ((w : ℕ) → w < 126 → P w) → P 126 → P 127 → (w : ℕ) → w < 128 → P w
+each-word P p a b w h = go (le-or-lt 126 w) (le-or-lt 127 w)
+  where
+    go : (126 ≤ w) ⊎ (w < 126) → (127 ≤ w) ⊎ (w < 127) → P w
+    go (inr x) y = p w x
+    go (inl x) (inr y) = subst P (omega arith) a
+    go (inl x) (inl y) = subst P (omega arith) b
+
 -- ---- the check of the same words is the same
 
 pub check-ext : (v v' : ℕ → ℕ) (n : ℕ) → ((k : ℕ) → k < n → v' k ≡ v k) → check v' n ≡ check v n
@@ -56,8 +67,8 @@ check-small v (suc n) = (omega arith, omega arith)
 
 -- ---- a sound block's words make any block of the same words sound
 
-pub carried : (v v' : ℕ → ℕ) (i n D : ℕ) → ((w : ℕ) → w < 128 → v' w ≡ v w) → Parts v i n D → soundBlock v' i n D ≡ true
-carried v v' i n D f p =
+pub same-words-sound : (v v' : ℕ → ℕ) (i n D : ℕ) → ((w : ℕ) → w < 128 → v' w ≡ v w) → RightWords v i n D → soundBlock v' i n D ≡ true
+same-words-sound v v' i n D f p =
     let e3 : v' 3 ≡ v 3 = f 3 (omega arith) in
     let s : check v' 126 ≡ check v 126 = check-ext v v' 126 (λ k h. f k (omega arith)) in
     let a : v' 126 ≡ check v' 126 .a = f 126 (omega arith) ∙ p .check-a ∙ ap (λ (x : Sums). x .a) (sym s) in

@@ -1,4 +1,5 @@
--- Stored blocks: document 01, "Stored blocks". A file is its bytes; a block is 128 words, here a function from the word's index to its number. Definitions only.
+-- Stored blocks: document 01, "Stored blocks". A file is its bytes; a block is 128 words, here a function from the word's place to its number: 0 the block's index,
+-- 1 the number of blocks, 2 the depth, 3 how many codes the block holds, 4 to 125 the codes, 126 and 127 the check. Definitions only.
 use Prim.Native.Nat.{ℕ, zero, suc, _+_, _-_, _*_, _/_, _%_, _^_}
 use mathlib.Core.Bool.{Bool, true, false, not, _&&_, _||_}
 use mathlib.Core.List.{List, [], _∷_, _++_}
@@ -8,10 +9,17 @@ use Rattle.cells.specs.Answer.{deepest}
 use Rattle.records.specs.Fault.{allFrom, firstFrom}
 use Rattle.blocks.specs.declared.Sums.{Sums}
 
--- word w of block i: four bytes, the lowest first
+-- the bytes of a block, and the codes that it can hold
+abbrev pub blockBytes : ℕ
+blockBytes = 512
+
+abbrev pub blockCodes : ℕ
+blockCodes = 122
+
+-- word w of block i of the bytes b: four bytes, the lowest first
 unfoldable pub word : List ℕ → ℕ → ℕ → ℕ
 word b i w =
-    getD b (512 * i + 4 * w) 0 + 256 * (getD b (512 * i + 4 * w + 1) 0 + 256 * (getD b (512 * i + 4 * w + 2) 0 + 256 * getD b (512 * i + 4 * w + 3) 0))
+    getD b (blockBytes * i + 4 * w) 0 + 256 * (getD b (blockBytes * i + 4 * w + 1) 0 + 256 * (getD b (blockBytes * i + 4 * w + 2) 0 + 256 * getD b (blockBytes * i + 4 * w + 3) 0))
 
 -- A takes the word and then B takes A, both sums wrapping at 32 bits
 abbrev pub taking : Sums → ℕ → Sums
@@ -24,27 +32,27 @@ check v (suc n) = taking (check v n) (v n)
 
 -- ---- the six things a block can have wrong: v is its words, i its position, n the file's blocks, D block 0's depth
 
--- word 0: the index is its position
+-- the index is its position
 abbrev pub rightIndex : (ℕ → ℕ) → ℕ → Bool
 rightIndex v i = eqb (v 0) i
 
--- word 1: the block count is the file's
+-- the block count is the file's
 abbrev pub rightBlocks : (ℕ → ℕ) → ℕ → Bool
 rightBlocks v n = eqb (v 1) n
 
--- word 2: the depth is at most the greatest, and block 0's
+-- the depth is at most the greatest, and block 0's
 abbrev pub rightDepth : (ℕ → ℕ) → ℕ → Bool
 rightDepth v D = leb (v 2) deepest && eqb (v 2) D
 
--- word 3: all blocks but the last hold 122 codes; the last holds 1 to 122, and 0 only where it is the one block
+-- the codes held: all blocks but the last hold 122; the last holds 1 to 122, and 0 only where it is the one block
 unfoldable pub rightCount : ℕ → ℕ → ℕ → Bool
-rightCount n i k = elim (ltb (i + 1) n) [ true ↦ eqb k 122 | false ↦ leb k 122 && (leb 1 k || eqb n 1) ]
+rightCount n i k = elim (ltb (i + 1) n) [ true ↦ eqb k blockCodes | false ↦ leb k blockCodes && (leb 1 k || eqb n 1) ]
 
--- words 4 to 125: the unused ones are 0
+-- the words after the codes are 0
 abbrev pub unusedZero : (ℕ → ℕ) → Bool
-unusedZero v = allFrom (λ w. eqb (v w) 0) (4 + v 3) (122 - v 3)
+unusedZero v = allFrom (λ w. eqb (v w) 0) (4 + v 3) (blockCodes - v 3)
 
--- words 126 and 127: the check
+-- the check is that of the words before it
 abbrev pub rightCheck : (ℕ → ℕ) → Bool
 rightCheck v = eqb (v 126) (check v 126 .a) && eqb (v 127) (check v 126 .b)
 
@@ -54,40 +62,28 @@ soundBlock v i n D = rightIndex v i && (rightBlocks v n && (rightDepth v D && (r
 
 -- ---- the file
 
--- how many whole blocks; whether there is a block and nothing beside whole blocks
+-- how many whole blocks; whether there is a block and nothing beside whole blocks; block 0's depth
 unfoldable pub blocks : List ℕ → ℕ
-blocks b = length b / 512
+blocks b = length b / blockBytes
 
 unfoldable pub whole : List ℕ → Bool
-whole b = leb 1 (blocks b) && eqb (length b % 512) 0
+whole b = leb 1 (blocks b) && eqb (length b % blockBytes) 0
 
 unfoldable pub depthOf : List ℕ → ℕ
 depthOf b = word b 0 2
 
--- the first block with any wrong word; the number of blocks where there is none
-unfoldable pub firstUnsound : List ℕ → ℕ
-firstUnsound b = firstFrom (λ i. not (soundBlock (word b i) i (blocks b) (depthOf b))) 0 (blocks b)
+-- the place that number 9 names: of a whole file the first block with a wrong word; else, or where no block has one, the count of whole blocks
+unfoldable pub wrongAt : List ℕ → ℕ
+wrongAt b = firstFrom (λ i. whole b && not (soundBlock (word b i) i (blocks b) (depthOf b))) 0 (blocks b)
 
 unfoldable pub sound : List ℕ → Bool
-sound b = whole b && eqb (firstUnsound b) (blocks b)
-
--- the place that number 9 names: the count of whole blocks for a length that is 0 or no multiple of 512, else the first block with a wrong word
-unfoldable pub wrongAt : List ℕ → ℕ
-wrongAt b = elim (whole b) [ true ↦ firstUnsound b | false ↦ blocks b ]
-
--- ---- the codes of a sound file
+sound b = whole b && eqb (wrongAt b) (blocks b)
 
 -- the numbers f 0 to f (n - 1)
-unfoldable pub table : (ℕ → ℕ) → ℕ → List ℕ
-table f zero = []
-table f (suc n) = table f n ++ (f n ∷ [])
+unfoldable pub tabulated : (ℕ → ℕ) → ℕ → List ℕ
+tabulated f zero = []
+tabulated f (suc n) = tabulated f n ++ (f n ∷ [])
 
--- how many codes the blocks hold, and which
-unfoldable pub leaves : List ℕ → ℕ
-leaves b = 122 * (blocks b - 1) + word b (blocks b - 1) 3
-
-unfoldable pub code : List ℕ → ℕ → ℕ
-code b j = word b (j / 122) (4 + j % 122)
-
+-- the codes of a sound file: full blocks, and what the last one holds
 unfoldable pub codes : List ℕ → List ℕ
-codes b = table (code b) (leaves b)
+codes b = tabulated (λ j. word b (j / blockCodes) (4 + j % blockCodes)) (blockCodes * (blocks b - 1) + word b (blocks b - 1) 3)

@@ -1,5 +1,5 @@
 // What is told of a stored file without a copy of its list: `check_blocks` and `stored_volume`.
-use crate::inner::held::survey_of;
+use crate::inner::held::holding_of;
 use crate::inner::soundness::leaves_of;
 use crate::inner::soundness::soundness_of;
 use cells::Answer;
@@ -23,12 +23,12 @@ pub fn check_blocks(bytes: &[u8]) -> Answer
 pub fn stored_volume(bytes: &[u8]) -> Answer
     ensures { λ r. ⌜ StoredVolumeOf (now (bytes .entry)) r ⌝ }
 {
-    let survey = survey_of(bytes);
-    let answer = survey.answer;
+    let held = holding_of(bytes);
+    let answer = held.answer;
     let number = answer.number;
     if number != 0 {
         return answer;
     }
-    let voxels = survey.voxels;
+    let voxels = held.voxels;
     success(voxels as u64)
 }

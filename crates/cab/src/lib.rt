@@ -1,6 +1,6 @@
 // The calls for the C controller in the cab: on numbers and bytes, each returning number x 2^32 + place.
-use blocks::inspect::check_blocks;
-use blocks::inspect::stored_volume;
+use blocks::check_blocks;
+use blocks::stored_volume;
 use cells::Answer;
 use cells::neighbours::neighbour;
 ghost use mathlib.Core.Path.{_≡_};

@@ -1,7 +1,8 @@
 // Stored blocks: lists written, their check, and read back.
 use crate::print;
-use blocks::inspect;
+use blocks::check_blocks;
 use blocks::read;
+use blocks::stored_volume;
 use blocks::write;
 ghost use Prim.Native.Nat.{_<_};
 
@@ -31,10 +32,10 @@ fn told_of(bytes: &[u8]) {
     print::text(b" B");
     print::number(word(bytes, 508));
     print::text(b" blocks");
-    print::answer(inspect::check_blocks(bytes));
+    print::answer(check_blocks(bytes));
     print::text(b" volume");
-    print::answer(inspect::stored_volume(bytes));
-    let r = read::read(bytes, &mut codes);
+    print::answer(stored_volume(bytes));
+    let r = read(bytes, &mut codes);
     let a = r.answer;
     print::text(b" read");
     print::answer(a);
@@ -49,7 +50,7 @@ fn stored(depth: u32, list: &[u32]) {
     print::text(b"write");
     print::number(depth as u64);
     print::codes(list);
-    print::answer(write::write(depth, list, &mut bytes));
+    print::answer(write(depth, list, &mut bytes));
     print::end();
     told_of(&bytes);
 }
@@ -60,7 +61,7 @@ fn short(depth: u32, list: &[u32]) {
     print::number(depth as u64);
     print::codes(list);
     print::text(b" room 511");
-    print::answer(write::write(depth, list, &mut bytes));
+    print::answer(write(depth, list, &mut bytes));
     print::end();
     told_of(&bytes);
 }

@@ -9,6 +9,7 @@ use Rattle.cells.specs.Answer.{given}
 use Rattle.cells.proofs.Bools.{clash}
 use Rattle.cells.proofs.Decisions.{passes}
 use Rattle.records.specs.Record.{Good}
+use Rattle.records.specs.Fault.{firstFrom}
 use Rattle.records.proofs.CallLaws.{checked, no-fault}
 use Rattle.records.proofs.Instances.{check-holds}
 use Rattle.blocks.specs.Block.{blocks, whole, sound, wrongAt}
@@ -35,7 +36,7 @@ listing-holds =
 
 -- no byte at all: "refused 9 0"
 pub listing-refuses : Printed [] (refusedText 9 0)
-unfolding blocks whole sound wrongAt
+unfolding blocks whole sound wrongAt firstFrom
 listing-refuses = inl (_, (refl, refl), refl)
 
 pub listing-fails : Printed [] [] → ⊥

@@ -14,10 +14,10 @@ use Rattle.records.specs.Count.{count}
 use Rattle.records.specs.Fault.{Faulty}
 use Rattle.records.specs.Writing.{stands}
 use Rattle.records.proofs.CallLaws.{no-fault}
-use Rattle.blocks.specs.Block.{sound, depthOf, leaves, codes}
+use Rattle.blocks.specs.Block.{sound, depthOf, codes}
 use Rattle.blocks.specs.Calls.{Unsound, ReadOf}
 use Rattle.blocks.specs.declared.Reading.{Reading}
-use Rattle.blocks.proofs.Sound.{all-blocks, leaves-most}
+use Rattle.blocks.proofs.Sound.{all-blocks, codes-most}
 use Rattle.blocks.proofs.CallLaws.{not-unsound}
 use Rattle.text.specs.Text.{pathLines, textOf, TextOf, refusedText, RefusedOf}
 use Rattle.text.specs.Inner.{headLine}
@@ -26,8 +26,8 @@ use Rattle.listing.specs.Listing.{longest, mostCodes, refusedLine, Print
 
 -- ---- room
 
-pub few-codes : (b : List ℕ) → sound b ≡ true → length b ≤ longest → leaves b ≤ mostCodes
-few-codes b s h = omega (arith, leaves-most b s, all-blocks b s)
+pub few-codes : (b : List ℕ) → sound b ≡ true → length b ≤ longest → length (codes b) ≤ mostCodes
+few-codes b s h = omega (arith, codes-most b s, all-blocks b s)
 
 pub text-length : (D : ℕ) (l : List ℕ) → D ≤ deepest → length (textOf D l) ≤ 83 + 12 * length l
 text-length D l h =

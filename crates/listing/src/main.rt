@@ -1,6 +1,6 @@
 // Reads one stored file on standard input, at most 65,536 bytes, and prints its listing, `refused N P` for a bad file, or `too long`.
 // An input that cannot be read on ends there; where the output is closed, the program ends.
-use blocks::read::read;
+use blocks::read;
 use libc::STDIN_FILENO;
 use libc::STDOUT_FILENO;
 use text::list_text;

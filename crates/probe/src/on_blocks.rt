@@ -1,9 +1,9 @@
 // The calls of the crate blocks.
 use crate::inner::tell;
-use blocks::inspect::check_blocks;
-use blocks::inspect::stored_volume;
-use blocks::read::read;
-use blocks::write::write;
+use blocks::check_blocks;
+use blocks::read;
+use blocks::stored_volume;
+use blocks::write;
 ghost use mathlib.Core.Path.{_≡_};
 ghost use Rattle.blocks.specs.Calls.{BlockCheckOf, StoredVolumeOf, ReadOf, WriteOf};
 ghost use Rattle.blocks.specs.declared.Reading.{Reading};

@@ -1,5 +1,5 @@
 // Writes a sample record as a stored file to standard output: the south-western lower corner of a site of depth 3, cut in six leaves.
-use blocks::write::write;
+use blocks::write;
 use libc::STDOUT_FILENO;
 
 fn main() {

@@ -11,13 +11,14 @@ use records::inner::begin;
 use records::inner::step;
 ghost use mathlib.Core.Path.{_≡_};
 ghost use mathlib.Core.Bool.{true};
+ghost use lib.ListN.{length};
 ghost use Rattle.records.specs.Walk.{Found};
-ghost use Rattle.blocks.specs.Block.{sound, depthOf, leaves, codes};
-ghost use Rattle.blocks.specs.Inner.{Surveyed};
+ghost use Rattle.blocks.specs.Block.{sound, depthOf, codes};
+ghost use Rattle.blocks.specs.Inner.{HoldingOf};
 
 // The first fault of the n codes of a sound file.
 pub fn judge_stored(depth: u32, bytes: &[u8], n: usize) -> Verdict
-    requires { ⌜ (sound (now bytes) ≡ true) × (depth ≡ depthOf (now bytes)) × (n ≡ leaves (now bytes)) ⌝ }
+    requires { ⌜ (sound (now bytes) ≡ true) × (depth ≡ depthOf (now bytes)) × (n ≡ length (codes (now bytes))) ⌝ }
     ensures { λ r. ⌜ Found depth (codes (now (bytes .entry))) r ⌝ }
 {
     let mut walk = begin();
@@ -42,16 +43,16 @@ pub fn judge_stored(depth: u32, bytes: &[u8], n: usize) -> Verdict
 }
 
 // What is told of a file: the number of its leaves or why it is refused; its depth and its leaves' voxels, 0 where it is refused.
-pub struct Survey {
+pub struct Holding {
     pub answer: Answer,
     pub depth: u32,
     pub voxels: u32,
 }
 
-fn no_survey(answer: Answer) -> Survey
+fn nothing_held(answer: Answer) -> Holding
     ensures { λ r. ⌜ r .answer ≡ answer ⌝ }
 {
-    Survey {
+    Holding {
         answer,
         depth: 0,
         voxels: 0,
@@ -59,13 +60,13 @@ fn no_survey(answer: Answer) -> Survey
 }
 
 // The file judged: 9 for its blocks, 2 to 4 for the first fault of the list that they hold.
-pub fn survey_of(bytes: &[u8]) -> Survey
-    ensures { λ r. ⌜ Surveyed (now (bytes .entry)) r ⌝ }
+pub fn holding_of(bytes: &[u8]) -> Holding
+    ensures { λ r. ⌜ HoldingOf (now (bytes .entry)) r ⌝ }
 {
     let seen = soundness_of(bytes);
     let n = seen.place;
     if !seen.sound {
-        return no_survey(refusal(9, n as u64, 0));
+        return nothing_held(refusal(9, n as u64, 0));
     }
     let leaves = leaves_of(bytes, n);
     let depth = word_at(bytes, 0, 2);
@@ -73,9 +74,9 @@ pub fn survey_of(bytes: &[u8]) -> Survey
     let number = found.number;
     let place = found.place;
     if number != 0 {
-        return no_survey(refusal(number, place, 1));
+        return nothing_held(refusal(number, place, 1));
     }
-    Survey {
+    Holding {
         answer: success(place),
         depth,
         voxels: found.sum,

@@ -1,5 +1,12 @@
 // INNER: whether the blocks of a file are sound, word by word.
+use crate::BLOCK_BYTES;
+use crate::BLOCK_CODES;
+use crate::CHECK_A;
+use crate::CHECK_B;
+use crate::FIRST_CODE;
 use crate::Sums;
+use crate::inner::sums::no_sums;
+use crate::inner::sums::took;
 use crate::inner::words::word_at;
 use cells::DEEPEST;
 ghost use mathlib.Core.Path.{_≡_};
@@ -8,34 +15,32 @@ ghost use Prim.Native.Nat.{_+_, _-_, _*_, _≤_, _<_};
 ghost use lib.Dec.{eqb};
 ghost use lib.ListN.{length};
 ghost use Rattle.records.specs.Fault.{allFrom};
-ghost use Rattle.blocks.specs.Block.{word, check, rightCount, rightCheck, soundBlock, blocks, firstUnsound, sound, wrongAt, leaves};
+ghost use Rattle.blocks.specs.Block.{blockBytes, blockCodes, word, check, rightCount, rightCheck, soundBlock, blocks, whole, sound, wrongAt, codes};
 
-// The check of words 0 to 125 of block i.
+// The check of the words of block i before it.
 pub fn sum_up(bytes: &[u8], i: usize) -> Sums
-    requires { ⌜ 512 * i + 512 ≤ length (now bytes) ⌝ }
+    requires { ⌜ blockBytes * i + blockBytes ≤ length (now bytes) ⌝ }
     ensures { λ r. ⌜ r ≡ check (word (now (bytes .entry)) i) 126 ⌝ }
 {
-    let mut a: u32 = 1;
-    let mut b: u32 = 0;
+    let mut sums = no_sums();
     let mut w: usize = 0;
-    while w < 126 {
-        a = std::num::wrapping_add_u32(a, word_at(bytes, i, w));
-        b = std::num::wrapping_add_u32(b, a);
+    while w < CHECK_A {
+        sums = took(sums, word_at(bytes, i, w));
         w += 1;
     }
-    Sums { a, b }
+    sums
 }
 
-// Whether words 126 and 127 of block i are its check.
+// Whether block i ends with its check.
 pub fn right_check(bytes: &[u8], i: usize) -> bool
-    requires { ⌜ 512 * i + 512 ≤ length (now bytes) ⌝ }
+    requires { ⌜ blockBytes * i + blockBytes ≤ length (now bytes) ⌝ }
     ensures { λ r. ⌜ r ≡ rightCheck (word (now (bytes .entry)) i) ⌝ }
 {
     let sums = sum_up(bytes, i);
-    if word_at(bytes, i, 126) != sums.a {
+    if word_at(bytes, i, CHECK_A) != sums.a {
         return false;
     }
-    word_at(bytes, i, 127) == sums.b
+    word_at(bytes, i, CHECK_B) == sums.b
 }
 
 // Whether block i of n may hold k codes.
@@ -44,9 +49,9 @@ pub fn right_count(n: usize, i: usize, k: usize) -> bool
     ensures { λ r. ⌜ r ≡ rightCount n i k ⌝ }
 {
     if i + 1 < n {
-        return k == 122;
+        return k == BLOCK_CODES;
     }
-    if 122 < k {
+    if BLOCK_CODES < k {
         return false;
     }
     if 0 < k {
@@ -57,11 +62,11 @@ pub fn right_count(n: usize, i: usize, k: usize) -> bool
 
 // Whether the words of block i after its k codes are 0.
 pub fn unused_zero(bytes: &[u8], i: usize, k: usize) -> bool
-    requires { ⌜ (512 * i + 512 ≤ length (now bytes)) × (k ≤ 122) ⌝ }
-    ensures { λ r. ⌜ r ≡ allFrom (λ w. eqb (word (now (bytes .entry)) i w) 0) (4 + k) (122 - k) ⌝ }
+    requires { ⌜ (blockBytes * i + blockBytes ≤ length (now bytes)) × (k ≤ blockCodes) ⌝ }
+    ensures { λ r. ⌜ r ≡ allFrom (λ w. eqb (word (now (bytes .entry)) i w) 0) (4 + k) (blockCodes - k) ⌝ }
 {
-    let mut w = 4 + k;
-    while w < 126 {
+    let mut w = FIRST_CODE + k;
+    while w < CHECK_A {
         if word_at(bytes, i, w) != 0 {
             return false;
         }
@@ -72,7 +77,7 @@ pub fn unused_zero(bytes: &[u8], i: usize, k: usize) -> bool
 
 // Whether every word of block i of n is right, block 0's depth being given.
 pub fn is_sound(bytes: &[u8], i: usize, n: usize, depth: u32) -> bool
-    requires { ⌜ (512 * n ≤ length (now bytes)) × (i < n) ⌝ }
+    requires { ⌜ (blockBytes * n ≤ length (now bytes)) × (i < n) ⌝ }
     ensures { λ r. ⌜ r ≡ soundBlock (word (now (bytes .entry)) i) i n depth ⌝ }
 {
     if word_at(bytes, i, 0) as usize != i {
@@ -98,10 +103,10 @@ pub fn is_sound(bytes: &[u8], i: usize, n: usize, depth: u32) -> bool
     right_check(bytes, i)
 }
 
-// The first unsound block of n, n where there is none.
+// The first unsound block of n, n where there is none: a whole file's.
 pub fn first_unsound(bytes: &[u8], n: usize) -> usize
-    requires { ⌜ (n ≡ blocks (now bytes)) × (0 < n) ⌝ }
-    ensures { λ r. ⌜ r ≡ firstUnsound (now (bytes .entry)) ⌝ }
+    requires { ⌜ (whole (now bytes) ≡ true) × (n ≡ blocks (now bytes)) ⌝ }
+    ensures { λ r. ⌜ r ≡ wrongAt (now (bytes .entry)) ⌝ }
 {
     let depth = word_at(bytes, 0, 2);
     let mut i: usize = 0;
@@ -123,14 +128,14 @@ pub struct Soundness {
 pub fn soundness_of(bytes: &[u8]) -> Soundness
     ensures { λ r. ⌜ (r .sound ≡ sound (now (bytes .entry))) × (r .place ≡ wrongAt (now (bytes .entry))) ⌝ }
 {
-    let n = bytes.len() / 512;
+    let n = bytes.len() / BLOCK_BYTES;
     if n == 0 {
         return Soundness {
             sound: false,
             place: n,
         };
     }
-    if bytes.len() % 512 != 0 {
+    if bytes.len() % BLOCK_BYTES != 0 {
         return Soundness {
             sound: false,
             place: n,
@@ -146,7 +151,7 @@ pub fn soundness_of(bytes: &[u8]) -> Soundness
 // How many codes the n blocks of a sound file hold.
 pub fn leaves_of(bytes: &[u8], n: usize) -> usize
     requires { ⌜ (sound (now bytes) ≡ true) × (n ≡ wrongAt (now bytes)) ⌝ }
-    ensures { λ r. ⌜ r ≡ leaves (now (bytes .entry)) ⌝ }
+    ensures { λ r. ⌜ r ≡ length (codes (now (bytes .entry))) ⌝ }
 {
-    122 * (n - 1) + word_at(bytes, n - 1, 3) as usize
+    BLOCK_CODES * (n - 1) + word_at(bytes, n - 1, 3) as usize
 }

@@ -1,16 +1,19 @@
 // INNER: words of a block, read and written where they stand among a file's bytes.
+use crate::BLOCK_BYTES;
+use crate::BLOCK_CODES;
+use crate::FIRST_CODE;
 ghost use mathlib.Core.Path.{_≡_};
-ghost use Prim.Native.Nat.{_+_, _*_, _/_, _≤_, _<_};
+ghost use Prim.Native.Nat.{_+_, _*_, _/_, _%_, _≤_, _<_};
 ghost use lib.ListN.{length};
-ghost use Rattle.blocks.specs.Block.{word, code};
-ghost use Rattle.blocks.specs.Inner.{putWord};
+ghost use Rattle.blocks.specs.Block.{blockBytes, blockCodes, word};
+ghost use Rattle.blocks.specs.Inner.{stored};
 
 // Word w of block i.
 pub fn word_at(bytes: &[u8], i: usize, w: usize) -> u32
-    requires { ⌜ (512 * i + 512 ≤ length (now bytes)) × (w < 128) ⌝ }
+    requires { ⌜ (blockBytes * i + blockBytes ≤ length (now bytes)) × (w < 128) ⌝ }
     ensures { λ r. ⌜ r ≡ word (now (bytes .entry)) i w ⌝ }
 {
-    let p = 512 * i + 4 * w;
+    let p = BLOCK_BYTES * i + 4 * w;
     let b0 = bytes[p] as u32;
     let b1 = bytes[p + 1] as u32;
     let b2 = bytes[p + 2] as u32;
@@ -18,20 +21,20 @@ pub fn word_at(bytes: &[u8], i: usize, w: usize) -> u32
     b0 + 256 * (b1 + 256 * (b2 + 256 * b3))
 }
 
-// The code of leaf j.
+// Code j of a file.
 pub fn code_at(bytes: &[u8], j: usize) -> u32
-    requires { ⌜ 512 * (j / 122) + 512 ≤ length (now bytes) ⌝ }
-    ensures { λ r. ⌜ r ≡ code (now (bytes .entry)) j ⌝ }
+    requires { ⌜ blockBytes * (j / blockCodes) + blockBytes ≤ length (now bytes) ⌝ }
+    ensures { λ r. ⌜ r ≡ word (now (bytes .entry)) (j / blockCodes) (4 + j % blockCodes) ⌝ }
 {
-    word_at(bytes, j / 122, 4 + j % 122)
+    word_at(bytes, j / BLOCK_CODES, FIRST_CODE + j % BLOCK_CODES)
 }
 
 // Word w of block i becomes x.
-pub fn put_word(bytes: &mut [u8], i: usize, w: usize, x: u32)
-    requires { ⌜ (512 * i + 512 ≤ length (now bytes)) × (w < 128) ⌝ }
-    ensures { λ _. ⌜ now (bytes .exit) ≡ putWord (now (bytes .entry)) (512 * i + 4 * w) x ⌝ }
+pub fn store_word(bytes: &mut [u8], i: usize, w: usize, x: u32)
+    requires { ⌜ (blockBytes * i + blockBytes ≤ length (now bytes)) × (w < 128) ⌝ }
+    ensures { λ _. ⌜ now (bytes .exit) ≡ stored (now (bytes .entry)) (blockBytes * i + 4 * w) x ⌝ }
 {
-    let p = 512 * i + 4 * w;
+    let p = BLOCK_BYTES * i + 4 * w;
     let y = x / 256;
     let z = y / 256;
     bytes[p] = (x % 256) as u8;

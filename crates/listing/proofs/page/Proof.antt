@@ -6,15 +6,15 @@ use Prim.Native.Nat.{ℕ, _≤_}
 use native.Mathlib.Omega.{arith}
 use borrow.Author.Needs.{needs}
 use lib.ListN.{length, take, drop}
-use lib.Seq.{take-at, length-take-le}
+use lib.Seq.{take-append-seam, length-take-le}
 use Rattle.cells.specs.declared.Answer.{Answer}
 use Rattle.cells.proofs.Bools.{clash}
 use Rattle.cells.proofs.Decisions.{passes}
 use Rattle.records.proofs.CallLaws.{no-fault}
-use Rattle.blocks.specs.Block.{depthOf, leaves, codes}
+use Rattle.blocks.specs.Block.{depthOf, codes}
 use Rattle.blocks.specs.declared.Reading.{Reading}
-use Rattle.blocks.proofs.Sound.{shallow-file, codes-length}
-use Rattle.blocks.proofs.Theorems.{Taken, taken}
+use Rattle.blocks.proofs.Sound.{shallow-file}
+use Rattle.blocks.proofs.Theorems.{ReadSuccess, read-success}
 use Rattle.text.specs.Text.{textOf, TextOf, refusedText}
 use Rattle.listing.specs.Listing.{mostCodes}
 use Rattle.listing.proofs.Pages.{few-codes, text-length, refused-printed, text-front, refused-front}
@@ -51,21 +51,21 @@ module _ (c : tie.Else1) where
   none : d .read .result .answer .number ≡ 0
   none = search needs
 
-  file : Taken b (s .args .codes .now) (d .read .result) (d .read .last .1 .0)
-  file = taken b (s .args .codes .now) (d .read .result) _ (d .read .ensures) none
+  file : ReadSuccess b (s .args .codes .now) (d .read .result) (d .read .last .1 .0)
+  file = read-success b (s .args .codes .now) (d .read .result) _ (d .read .ensures) none
 
   -- the codes read are the file's
-  is-place : d .read .result .answer .place ≡ leaves b
+  is-place : d .read .result .answer .place ≡ length (codes b)
   is-place = ap (λ (x : Reading). x .answer .place) (file .is-reading)
 
   is-depth : d .read .result .depth ≡ depthOf b
   is-depth = ap (λ (x : Reading). x .depth) (file .is-reading)
 
   front : take (d .read .result .answer .place) (d .read .last .1 .0) ≡ codes b
-  front = ap₂ take is-place (file .is-after) ∙ take-at (codes b) (drop (leaves b) (s .args .codes .now)) (leaves b) (codes-length b)
+  front = ap₂ take is-place (file .is-after) ∙ take-append-seam (codes b) (drop (length (codes b)) (s .args .codes .now))
 
   -- they fit
-  few : leaves b ≤ mostCodes
+  few : length (codes b) ≤ mostCodes
   few = few-codes b (file .is-sound) (s .pre .0)
 
   room : d .read .result .answer .place ≤ length (d .read .last .1 .0)
@@ -83,7 +83,7 @@ returns-2 c =
     subst (λ (x : List ℕ). TextOf (depthOf (b e)) x o (l .list-text .result) (l .list-text .last .1 .1 .0)) (front e)
     (subst (λ (D : ℕ). TextOf D (take (d e .read .result .answer .place) (d e .read .last .1 .0)) o (l .list-text .result) (l .list-text .last .1 .1 .0)) (is-depth e) (l .list-text .ensures)) in
     let h = shallow-file (b e) (file e .is-sound) in
-    let f = text-front (depthOf (b e)) (codes (b e)) o (l .list-text .result) _ w h (file e .good) (omega (arith, text-length (depthOf (b e)) (codes (b e)) h, codes-length (b e), few e, s e .pre .2)) in
+    let f = text-front (depthOf (b e)) (codes (b e)) o (l .list-text .result) _ w h (file e .good) (omega (arith, text-length (depthOf (b e)) (codes (b e)) h, few e, s e .pre .2)) in
     record {
       text = textOf (depthOf (b e)) (codes (b e));
       printed = inr (passes (clash (file e .is-sound)), inr (passes (no-fault (depthOf (b e)) (codes (b e)) (file e .good)), refl));

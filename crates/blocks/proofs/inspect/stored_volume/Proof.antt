@@ -7,7 +7,7 @@ use Rattle.cells.specs.Answer.{given, alone}
 use Rattle.cells.specs.declared.Answer.{Answer}
 use Rattle.records.proofs.Volume.{blacks, list-volume}
 use Rattle.blocks.specs.Block.{depthOf, codes}
-use Rattle.blocks.proofs.CallLaws.{survey-first, survey-next, held}
+use Rattle.blocks.proofs.CallLaws.{judged-first, judged-next, held}
 use Rattle.blocks.proofs.inspect.stored_volume.Statement.{statement}
 use Rattle.blocks.proofs.inspect.stored_volume.Tie as tie
 
@@ -21,16 +21,16 @@ module _ (c : tie.After-answer) where
 returns : tie.Need-returns
 returns c =
     let t = c .before in
-    let r = t .before .survey-of in
-    survey-first (b t) (r .result .answer) (r .ensures .tells) alone [] (Told t) (c .if1 .taken)
+    let r = t .before .holding-of in
+    judged-first (b t) (r .result .answer) (r .ensures .tells) alone [] (Told t) (c .if1 .taken)
 
 returns-2 : tie.Need-returns-2
 returns-2 c =
     let t = c .before .before in
-    let r = t .before .survey-of in
+    let r = t .before .holding-of in
     let z : r .result .answer .number ≡ 0 = search needs in
     let k = held (b t) (r .result .answer) (r .ensures .tells) z in
-    survey-next (b t) (r .result .answer) (r .ensures .tells) alone [] (Told t) _ z
+    judged-next (b t) (r .result .answer) (r .ensures .tells) alone [] (Told t) _ z
     (c .success .ensures ∙ ap given (r .ensures .is-voxels z ∙ sym (list-volume (depthOf (b t)) 0 (codes (b t)) (k .good .ordered))))
 
 pub stored-volume-spec : {M : Type 1} → statement M

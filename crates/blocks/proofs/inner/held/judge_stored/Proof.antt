@@ -4,10 +4,11 @@ use mathlib.Core.Path.{refl, sym, subst, _∙_}
 use Prim.Native.Nat.{ℕ, _-_, _≤_, _<_}
 use native.Mathlib.Omega.{arith}
 use borrow.Author.Needs.{needs}
+use lib.ListN.{length}
 use Rattle.records.specs.Walk.{Walked, Stepped}
 use Rattle.records.proofs.Walks.{found-fault, found-none}
-use Rattle.blocks.specs.Block.{leaves, codes}
-use Rattle.blocks.proofs.Sound.{leaf-within, shallow-file, codes-length, code-is}
+use Rattle.blocks.specs.Block.{codes}
+use Rattle.blocks.proofs.Sound.{codes-at, shallow-file, code-within}
 use Rattle.blocks.proofs.inner.held.judge_stored.Statement.{statement}
 use Rattle.blocks.proofs.inner.held.judge_stored.Tie as tie
 
@@ -20,7 +21,7 @@ abbrev μ-loop : tie.MeasureT-loop
 code-at-requires : tie.Need-code-at-requires Inv-loop μ-loop
 code-at-requires c κs =
     let s = c .before .before .before .before in
-    leaf-within (s .args .bytes .now) (s .pre .0) (c .before .loop .i) (omega (arith, s .pre .2))
+    code-within (s .args .bytes .now) (s .pre .0) (c .before .loop .i) (omega (arith, s .pre .2))
 
 step-requires : tie.Need-step-requires Inv-loop μ-loop
 step-requires c κs =
@@ -38,18 +39,18 @@ module _ (c : tie.After-step Inv-loop μ-loop) where
   o = c .before .before .before
 
   -- the leaf is one of the list's
-  there : o .loop .i < leaves (s .args .bytes .now)
+  there : o .loop .i < length (codes (s .args .bytes .now))
   there = omega (arith, s .pre .2, c .before .before .loop-test .taken)
 
   told : Stepped (s .args .depth) (codes (s .args .bytes .now)) (o .loop .i) (c .step .result)
-  told = c .step .ensures (codes (s .args .bytes .now)) (o .loop .i) (o .loop .inv .1) (code-is (s .args .bytes .now) (o .loop .i) there ∙ sym (c .before .code-at .ensures))
+  told = c .step .ensures (codes (s .args .bytes .now)) (o .loop .i) (o .loop .inv .1) (codes-at (s .args .bytes .now) (o .loop .i) there ∙ sym (c .before .code-at .ensures))
 
 returns : tie.Need-returns Inv-loop μ-loop
 returns c =
     let p = c .before in
     let a = s p .args in
     let w = o p .loop in
-    found-fault (a .depth) (codes (a .bytes .now)) (w .i) (w .walk) (w .inv .1) (p .step .result) (told p) (omega (arith, there p, codes-length (a .bytes .now))) (c .if1 .taken) _ refl refl
+    found-fault (a .depth) (codes (a .bytes .now)) (w .i) (w .walk) (w .inv .1) (p .step .result) (told p) (there p) (c .if1 .taken) _ refl refl
 
 loop-again : tie.Need-loop-again Inv-loop μ-loop
 loop-again c =
@@ -63,7 +64,7 @@ returns-2 c =
     let s = c .before .before .before .before in
     let a = s .args in
     let w = c .before .loop in
-    found-none (a .depth) (codes (a .bytes .now)) (w .i) (w .walk) (w .inv .1) (omega (arith, c .loop-test .left, w .inv .0, s .pre .2, codes-length (a .bytes .now))) _ refl refl refl
+    found-none (a .depth) (codes (a .bytes .now)) (w .i) (w .walk) (w .inv .1) (omega (arith, c .loop-test .left, w .inv .0, s .pre .2)) _ refl refl refl
 
 pub judge-stored-spec : {M : Type 1} → statement M
 judge-stored-spec =

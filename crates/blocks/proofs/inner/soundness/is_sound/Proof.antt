@@ -10,7 +10,7 @@ use Rattle.cells.specs.Answer.{deepest}
 use Rattle.cells.proofs.Bools.{clash}
 use Rattle.records.specs.Fault.{allFrom}
 use Rattle.blocks.specs.Block.{word, rightCount, unusedZero, soundBlock}
-use Rattle.blocks.proofs.Sound.{Parts, wrong, sound-last, right-most}
+use Rattle.blocks.proofs.Sound.{RightWords, wrong, sound-last, right-most}
 use Rattle.blocks.proofs.inner.soundness.is_sound.Statement.{statement}
 use Rattle.blocks.proofs.inner.soundness.is_sound.Tie as tie
 
@@ -21,7 +21,7 @@ module _ (s : tie.Start) where
   v = word (s .args .bytes .now) (s .args .i)
 
   abbrev Right : Type 0
-  Right = Parts v (s .args .i) (s .args .n) (s .args .depth)
+  Right = RightWords v (s .args .i) (s .args .n) (s .args .depth)
 
   no-block : (Right → ⊥) → false ≡ soundBlock v (s .args .i) (s .args .n) (s .args .depth)
   no-block h = wrong v (s .args .i) (s .args .n) (s .args .depth) h

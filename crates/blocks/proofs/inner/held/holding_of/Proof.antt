@@ -1,4 +1,4 @@
--- `blocks::inner::held::survey_of` meets its contract. Assumes nothing.
+-- `blocks::inner::held::holding_of` meets its contract. Assumes nothing.
 use mathlib.Core.Path.{_≡_, refl, sym, ap, subst, _∙_}
 use mathlib.Core.Bool.{true}
 use mathlib.Core.List.{List}
@@ -14,9 +14,9 @@ use Rattle.cells.proofs.Decisions.{passes}
 use Rattle.records.specs.Walk.{Found}
 use Rattle.records.proofs.Walks.{found-refuses, found-passes}
 use Rattle.blocks.specs.Block.{sound, depthOf, codes}
-use Rattle.blocks.proofs.Sound.{some-block, all-blocks, codes-length}
-use Rattle.blocks.proofs.inner.held.survey_of.Statement.{statement}
-use Rattle.blocks.proofs.inner.held.survey_of.Tie as tie
+use Rattle.blocks.proofs.Sound.{some-block, all-blocks}
+use Rattle.blocks.proofs.inner.held.holding_of.Statement.{statement}
+use Rattle.blocks.proofs.inner.held.holding_of.Tie as tie
 
 -- ---- what is known of a sound file, and of its list once it is judged
 
@@ -41,8 +41,8 @@ module _ (c : tie.After-judge-stored) where
 returns : tie.Need-returns
 returns c =
     let t = c .before .before .before .before .soundness-of .ensures in
-    let r = c .no-survey .ensures ∙ c .before .refusal .ensures in
-    let some : c .no-survey .result .answer .number ≡ 9 = ap (λ (a : Answer). a .number) r in
+    let r = c .nothing-held .ensures ∙ c .before .refusal .ensures in
+    let some : c .nothing-held .result .answer .number ≡ 9 = ap (λ (a : Answer). a .number) r in
     record {
       tells = inl (_, (sym (t .0) ∙ not-true _ (c .before .before .if1 .taken), refl), r ∙ ap (λ (p : ℕ). answer 9 p 0) (t .1));
       is-depth = λ z. absurd (omega arith);
@@ -60,8 +60,8 @@ returns-2 : tie.Need-returns-2
 returns-2 c =
     let q = c .before .before .before in
     let some = c .before .before .if2 .taken in
-    let r = c .no-survey2 .ensures ∙ c .before .refusal2 .ensures in
-    let none : c .no-survey2 .result .answer .number ≡ 0 → ⊥ = λ z. some (ap (λ (a : Answer). a .number) (sym r) ∙ z) in
+    let r = c .nothing-held2 .ensures ∙ c .before .refusal2 .ensures in
+    let none : c .nothing-held2 .result .answer .number ≡ 0 → ⊥ = λ z. some (ap (λ (a : Answer). a .number) (sym r) ∙ z) in
     record {
       tells = inr (passes (clash (is-sound (e q))), inl (_, found-refuses (depthOf (b (e q))) (codes (b (e q))) (q .judge-stored .result) (judged q) 1 some, r));
       is-depth = λ z. absurd (none z);
@@ -77,14 +77,14 @@ returns-3 c =
       tells =
           inr (
             passes (clash (is-sound (e q))),
-            inr (passes (found-passes (depthOf (b (e q))) (codes (b (e q))) (q .judge-stored .result) f z), c .success .ensures ∙ ap given (f .whole z ∙ codes-length (b (e q)))),
+            inr (passes (found-passes (depthOf (b (e q))) (codes (b (e q))) (q .judge-stored .result) f z), c .success .ensures ∙ ap given (f .whole z)),
           );
       is-depth = λ x. is-depth q;
       is-voxels = λ x. f .is-sum z;
     }
 
-pub survey-of-spec : {M : Type 1} → statement M
-survey-of-spec =
+pub holding-of-spec : {M : Type 1} → statement M
+holding-of-spec =
     tie.close
     (tie.spec
     (λ c κs. search needs)

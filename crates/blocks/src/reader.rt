@@ -1,21 +1,21 @@
 // The reader: the list that a stored file holds.
 use crate::Reading;
-use crate::inner::held::survey_of;
+use crate::inner::held::holding_of;
 use crate::inner::words::code_at;
 use cells::Answer;
 use cells::inner::refusal;
 ghost use mathlib.Core.Path.{_≡_};
 ghost use mathlib.Core.Bool.{true};
-ghost use mathlib.Core.List.{_++_};
 ghost use Prim.Native.Nat.{_≤_};
-ghost use lib.ListN.{length, drop};
-ghost use Rattle.blocks.specs.Block.{sound, leaves, codes};
+ghost use lib.ListN.{length};
+ghost use Rattle.records.specs.Writing.{stands};
+ghost use Rattle.blocks.specs.Block.{sound, codes};
 ghost use Rattle.blocks.specs.Calls.{ReadOf};
 
 // The n codes of a sound file, at the front of `out`.
 fn copy(bytes: &[u8], n: usize, out: &mut [u32])
-    requires { ⌜ (sound (now bytes) ≡ true) × (n ≡ leaves (now bytes)) × (n ≤ length (now out)) ⌝ }
-    ensures { λ _. ⌜ now (out .exit) ≡ codes (now (bytes .entry)) ++ drop (leaves (now (bytes .entry))) (now (out .entry)) ⌝ }
+    requires { ⌜ (sound (now bytes) ≡ true) × (n ≡ length (codes (now bytes))) × (n ≤ length (now out)) ⌝ }
+    ensures { λ _. ⌜ now (out .exit) ≡ stands (codes (now (bytes .entry))) (now (out .entry)) ⌝ }
 {
     let mut i: usize = 0;
     while i < n {
@@ -35,8 +35,8 @@ fn unread(answer: Answer) -> Reading
 pub fn read(bytes: &[u8], out: &mut [u32]) -> Reading
     ensures { λ r. ⌜ ReadOf (now (bytes .entry)) (now (out .entry)) r (now (out .exit)) ⌝ }
 {
-    let survey = survey_of(bytes);
-    let answer = survey.answer;
+    let held = holding_of(bytes);
+    let answer = held.answer;
     let number = answer.number;
     if number != 0 {
         return unread(answer);
@@ -48,6 +48,6 @@ pub fn read(bytes: &[u8], out: &mut [u32]) -> Reading
     copy(bytes, n, out);
     Reading {
         answer,
-        depth: survey.depth,
+        depth: held.depth,
     }
 }

@@ -1,18 +1,18 @@
--- `blocks::inner::words::put_word` meets its contract. Assumes nothing.
+-- `blocks::inner::words::store_word` meets its contract. Assumes nothing.
 use mathlib.Core.Path.{refl}
 use native.Mathlib.Omega.{arith}
 use lib.ListN.{length-set}
 use Rattle.blocks.specs.File.{byteOf}
 use borrow.Author.Needs.{needs}
-use Rattle.blocks.proofs.inner.words.put_word.Statement.{statement}
-use Rattle.blocks.proofs.inner.words.put_word.Tie as tie
+use Rattle.blocks.proofs.inner.words.store_word.Statement.{statement}
+use Rattle.blocks.proofs.inner.words.store_word.Tie as tie
 
 returns : tie.Need-returns
 unfolding byteOf
 returns c = refl
 
-pub put-word-spec : {M : Type 1} → statement M
-put-word-spec =
+pub store-word-spec : {M : Type 1} → statement M
+store-word-spec =
     tie.close
     (tie.spec
     (λ c. search needs)

@@ -1,0 +1,71 @@
+-- `blocks::reader::copy` meets its contract. The loop's invariant: the first i codes are stored. Assumes nothing.
+use mathlib.Core.Path.{_≡_, refl, ap, _∙_}
+use mathlib.Core.List.{List}
+use Prim.Native.Nat.{ℕ, _+_, _-_, _*_, _/_, _%_, _≤_}
+use native.Mathlib.Omega.{arith}
+use borrow.Author.Needs.{needs}
+use lib.ListN.{length, set}
+use lib.Seq.{sets, length-sets}
+use Rattle.records.proofs.Writing.{sets-front}
+use Rattle.blocks.specs.Block.{blockCodes, word, blocks, tabulated, codes}
+use Rattle.blocks.proofs.Tables.{sets-more}
+use Rattle.blocks.proofs.Sound.{codes-length, code-within}
+use Rattle.blocks.proofs.reader.copy.Statement.{statement}
+use Rattle.blocks.proofs.reader.copy.Tie as tie
+
+-- code j
+abbrev code : List ℕ → ℕ → ℕ
+code b j = word b (j / blockCodes) (4 + j % blockCodes)
+
+abbrev Inv-loop : tie.InvT-loop
+Inv-loop bytes n out₀ i₀ out i = (i ≤ n) × (out ≡ sets out₀ 0 (tabulated (code bytes) i))
+
+abbrev μ-loop : tie.MeasureT-loop
+μ-loop bytes n out₀ i₀ out i = n - i
+
+-- ---- the loop's head
+
+module _ (c : tie.At-loop Inv-loop μ-loop) where
+  abbrev s : tie.Start Inv-loop μ-loop
+  s = c .before .before .before
+
+  same : length (c .loop .out) ≡ length (s .args .out .now)
+  same = ap length (c .loop .inv .1) ∙ length-sets (s .args .out .now) 0 (tabulated (code (s .args .bytes .now)) (c .loop .i))
+
+loop-holds : tie.Need-loop-holds Inv-loop μ-loop
+unfolding tabulated
+loop-holds c = (search needs, refl)
+
+code-at-requires : tie.Need-code-at-requires Inv-loop μ-loop
+code-at-requires c κs = let h = c .before in code-within (s h .args .bytes .now) (s h .pre .0) (h .loop .i) (omega (arith, s h .pre .1, c .loop-test .taken))
+
+loop-again : tie.Need-loop-again Inv-loop μ-loop
+loop-again c =
+    let h = c .before .before in
+    let i = h .loop .i in
+    (search needs, ap (λ (l : List ℕ). set l i (c .code-at .result)) (h .loop .inv .1) ∙ sets-more (code (s h .args .bytes .now)) (s h .args .out .now) i (i + 1) (c .code-at .result) refl (c .code-at .ensures))
+
+returns : tie.Need-returns Inv-loop μ-loop
+unfolding codes
+returns c =
+    let h = c .before in
+    let b = s h .args .bytes .now in
+    let o = s h .args .out .now in
+    let e : h .loop .i ≡ blockCodes * (blocks b - 1) + word b (blocks b - 1) 3 = omega (arith, c .loop-test .left, h .loop .inv .0, s h .pre .1, codes-length b) in
+    h .loop .inv .1 ∙ ap (λ (n : ℕ). sets o 0 (tabulated (code b) n)) e ∙ sets-front o (codes b) (omega (arith, s h .pre .1, s h .pre .2))
+
+pub copy-spec : {M : Type 1} → statement M
+copy-spec =
+    tie.close
+    (tie.spec
+    Inv-loop
+    μ-loop
+    loop-holds
+    code-at-requires
+    (λ c. search needs)
+    (λ c. let h = c .before .before in omega (arith, same h, s h .pre .2, c .before .loop-test .taken))
+    (λ c. search needs)
+    (λ c. search needs)
+    loop-again
+    (λ c. same (c .before))
+    returns)

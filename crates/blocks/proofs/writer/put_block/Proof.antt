@@ -1,0 +1,108 @@
+-- `blocks::writer::put_block` meets its contract. The loop's invariant: the words before w are written and taken into the check. Assumes nothing.
+use mathlib.Core.Path.{_≡_, refl, sym, ap, subst, _∙_}
+use mathlib.Core.List.{List}
+use Prim.Native.Nat.{ℕ, _+_, _-_, _*_, _≤_, _<_}
+use native.Mathlib.Omega.{arith}
+use borrow.Author.Needs.{needs}
+use lib.ListN.{length, length-set}
+use Rattle.blocks.specs.Block.{blockBytes, check}
+use Rattle.blocks.specs.declared.Sums.{Sums}
+use Rattle.blocks.specs.File.{plain, words}
+use Rattle.blocks.specs.Inner.{stored, begun}
+use Rattle.blocks.proofs.Files.{words-plain, words-a, words-b, word-more}
+use Rattle.blocks.proofs.writer.put_block.Statement.{statement}
+use Rattle.blocks.proofs.writer.put_block.Tie as tie
+
+-- the words before w of block i are written over o
+abbrev Reached : ℕ → List ℕ → ℕ → List ℕ → List ℕ → ℕ → Type 0
+Reached D l i bytes₀ bytes w = (o : List ℕ) → bytes₀ ≡ begun D l o (blockBytes * i) → bytes ≡ begun D l o (blockBytes * i + 4 * w)
+
+-- one more
+reached-more : (D : ℕ) (l : List ℕ) (i w x : ℕ) (bytes₀ bytes after : List ℕ) → Reached D l i bytes₀ bytes w → w < 128 → x ≡ words D l i w → after ≡ stored bytes (blockBytes * i + 4 * w) x → Reached D l i bytes₀ after (w + 1)
+reached-more D l i w x bytes₀ bytes after r h e a o begins =
+    a ∙ ap (λ (b : List ℕ). stored b (blockBytes * i + 4 * w) x) (r o begins) ∙ word-more D l i w x (blockBytes * i + 4 * w) (blockBytes * i + 4 * (w + 1)) o h refl (omega arith) e
+
+abbrev Inv-loop : tie.InvT-loop
+Inv-loop depth list n i bytes₀ sums₀ w₀ bytes sums w =
+    (w ≤ 126) × (length bytes ≡ length bytes₀) × (sums ≡ check (plain depth list i) w) × Reached depth list i bytes₀ bytes w
+
+abbrev μ-loop : tie.MeasureT-loop
+μ-loop depth list n i bytes₀ sums₀ w₀ bytes sums w = 126 - w
+
+loop-holds : tie.Need-loop-holds Inv-loop μ-loop
+loop-holds c =
+    let a = c .before .before .before .args in
+    (search needs, refl, c .no-sums .ensures _, λ o e. e ∙ ap (begun (a .depth) (a .list .now) o) (omega arith))
+
+loop-again : tie.Need-loop-again Inv-loop μ-loop
+loop-again c =
+    let p = c .before .before .before in
+    let x = p .before .before in
+    let h = x .before .before in
+    let a = h .before .before .before .before .args in
+    let w = h .loop .w in
+    let l = h .loop .inv in (
+      search needs,
+      ap length (p .store-word .ensures) ∙ simp length-set (l .1),
+      c .took .ensures _ w (l .2) (x .plain-word .ensures),
+      reached-more (a .depth) (a .list .now) (a .i) w (x .plain-word .result) _ _ _ (l .3) (omega arith) (x .plain-word .ensures ∙ sym (words-plain (a .depth) (a .list .now) (a .i) w (x .before .loop-test .taken)))
+          (p .store-word .ensures),
+    )
+
+-- ---- past the loop
+
+module _ (c : tie.After-loop Inv-loop μ-loop) where
+  abbrev s : tie.Start Inv-loop μ-loop
+  s = c .before .before .before .before .before
+
+  abbrev v : ℕ → ℕ
+  v = plain (s .args .depth) (s .args .list .now) (s .args .i)
+
+  all : c .before .loop .w ≡ 126
+  all = omega (arith, c .loop-test .left, c .before .loop .inv .0)
+
+  is-sums : c .before .loop .sums ≡ check v 126
+  is-sums = c .before .loop .inv .2 ∙ ap (check v) all
+
+module _ (c : tie.After-store-word2 Inv-loop μ-loop) where
+  abbrev e : tie.After-loop Inv-loop μ-loop
+  e = c .before .before
+
+  -- A stands
+  with-a : Reached (s e .args .depth) (s e .args .list .now) (s e .args .i) (s e .args .bytes .now) (c .store-word2 .last .0) 127
+  with-a =
+      let a = s e .args in
+      reached-more (a .depth) (a .list .now) (a .i) 126 (e .before .loop .sums .a) _ (e .before .loop .bytes) _ (subst (λ (w : ℕ). Reached (a .depth) (a .list .now) (a .i) (a .bytes .now) (e .before .loop .bytes) w) (all e) (e .before .loop .inv .3)) (omega arith)
+      (ap (λ (x : Sums). x .a) (is-sums e) ∙ sym (words-a (a .depth) (a .list .now) (a .i))) (c .store-word2 .ensures)
+
+  kept : length (c .store-word2 .last .0) ≡ length (s e .args .bytes .now)
+  kept = ap length (c .store-word2 .ensures) ∙ simp length-set (e .before .loop .inv .1)
+
+returns : tie.Need-returns Inv-loop μ-loop
+returns c =
+    λ o h.
+    let b = c .before .before in
+    let q = b .before .before .before .before in
+    let a = s (e q) .args in
+    reached-more (a .depth) (a .list .now) (a .i) 127 (e q .before .loop .sums .b) _ _ _ (with-a q) (omega arith) (ap (λ (x : Sums). x .b) (is-sums (e q)) ∙ sym (words-b (a .depth) (a .list .now) (a .i)))
+    (b .store-word3 .ensures) o h
+    ∙ ap (begun (a .depth) (a .list .now) o) (omega arith)
+
+pub put-block-spec : {M : Type 1} → statement M
+put-block-spec =
+    tie.close
+    (tie.spec
+    Inv-loop
+    μ-loop
+    (λ c κs. search needs)
+    loop-holds
+    (λ c κs. let s = c .before .before .before .before .before in (s .pre .0, c .loop-test .taken))
+    (λ c κs. let s = c .before .before .before .before .before .before .before in (omega (arith, s .pre .0 .inside, s .pre .1, c .before .before .before .loop .inv .1), omega arith))
+    (λ c κs. search needs)
+    (λ c. search needs)
+    (λ c. search needs)
+    loop-again
+    (λ c κs. let l = c .before in (omega (arith, s l .pre .0 .inside, s l .pre .1, l .before .loop .inv .1), omega arith))
+    (λ c κs. let q = c .before .before .before in (omega (arith, s (e q) .pre .0 .inside, s (e q) .pre .1, kept q), omega arith))
+    (λ c. let b = c .before .before in ap length (b .store-word3 .ensures) ∙ simp length-set (kept (b .before .before .before .before)))
+    returns)

@@ -1,0 +1,62 @@
+-- `blocks::writer::put_blocks` meets its contract. The loop's invariant: the blocks before i are written. Assumes nothing.
+use mathlib.Core.Path.{_≡_, refl, ap, _∙_}
+use Prim.Native.Nat.{_-_, _*_, _≤_}
+use native.Mathlib.Omega.{arith}
+use borrow.Author.Needs.{needs}
+use lib.ListN.{length}
+use lib.Seq.{length-sets}
+use Rattle.records.proofs.Writing.{sets-front}
+use Rattle.blocks.specs.Block.{blockBytes, tabulated}
+use Rattle.blocks.specs.File.{blocksOf, fileByte, fileOf}
+use Rattle.blocks.specs.Inner.{begun}
+use Rattle.blocks.proofs.Files.{file-length}
+use Rattle.blocks.proofs.writer.put_blocks.Statement.{statement}
+use Rattle.blocks.proofs.writer.put_blocks.Tie as tie
+
+abbrev Inv-loop : tie.InvT-loop
+Inv-loop depth list n bytes₀ i₀ bytes i = (i ≤ n) × (bytes ≡ begun depth list bytes₀ (blockBytes * i))
+
+abbrev μ-loop : tie.MeasureT-loop
+μ-loop depth list n bytes₀ i₀ bytes i = n - i
+
+-- ---- the loop's head
+
+module _ (c : tie.At-loop Inv-loop μ-loop) where
+  abbrev s : tie.Start Inv-loop μ-loop
+  s = c .before .before .before
+
+  same : length (c .loop .bytes) ≡ length (s .args .bytes .now)
+  same = ap length (c .loop .inv .1) ∙ length-sets (s .args .bytes .now) 0 (tabulated (fileByte (s .args .depth) (s .args .list .now)) (blockBytes * c .loop .i))
+
+loop-holds : tie.Need-loop-holds Inv-loop μ-loop
+unfolding tabulated
+loop-holds c = (search needs, refl)
+
+put-block-requires : tie.Need-put-block-requires Inv-loop μ-loop
+put-block-requires c κs =
+    let h = c .before .before in
+    let (number, few, room) = s h .pre in
+    (record { number = number; few = few; inside = c .before .loop-test .taken }, omega (arith, same h))
+
+returns : tie.Need-returns Inv-loop μ-loop
+unfolding fileOf
+returns c =
+    let h = c .before in
+    let a = s h .args in
+    let (number, few, room) = s h .pre in
+    let e : blockBytes * h .loop .i ≡ blockBytes * blocksOf (length (a .list .now)) = omega (arith, c .loop-test .left, h .loop .inv .0) in
+    h .loop .inv .1 ∙ ap (begun (a .depth) (a .list .now) (a .bytes .now)) e ∙ sets-front (a .bytes .now) (fileOf (a .depth) (a .list .now)) (omega (arith, file-length (a .depth) (a .list .now)))
+
+pub put-blocks-spec : {M : Type 1} → statement M
+put-blocks-spec =
+    tie.close
+    (tie.spec
+    Inv-loop
+    μ-loop
+    loop-holds
+    put-block-requires
+    (λ c. search needs)
+    (λ c. search needs)
+    (λ c. let h = c .before .before .before .before .before in (search needs, c .before .before .put-block .ensures (s h .args .bytes .now) (h .loop .inv .1)))
+    (λ c. same (c .before))
+    returns)
