@@ -12,4 +12,3 @@ pub mod CallLaws
 pub mod Theorems
 pub mod Damage
 pub mod Instances
-pub mod Former

@@ -1,14 +1,14 @@
 -- INNER: for the contracts of private and inner functions. Definitions only.
 use mathlib.Core.Path.{_≡_}
 use mathlib.Core.List.{List, [], _∷_}
-use Prim.Native.Nat.{ℕ, _+_, _^_, _<_}
+use Prim.Native.Nat.{ℕ, _+_, _/_, _%_, _^_, _<_}
 use lib.ListN.{length, set}
 use lib.Seq.{sets}
 use Rattle.cells.specs.Answer.{given, Decided, alone}
 use Rattle.records.specs.Fault.{Faulty}
 use Rattle.records.specs.Inner.{volume}
-use Rattle.blocks.specs.Block.{depthOf, tabulated, codes}
-use Rattle.blocks.specs.File.{blocksOf, byteOf, fileByte}
+use Rattle.blocks.specs.Block.{blockBytes, depthOf, tabulated, codes}
+use Rattle.blocks.specs.File.{blocksOf, words, byteOf}
 use Rattle.blocks.specs.Calls.{Unsound}
 use Rattle.blocks.specs.declared.inner.held.Holding.{Holding}
 
@@ -16,7 +16,10 @@ use Rattle.blocks.specs.declared.inner.held.Holding.{Holding}
 abbrev pub stored : List ℕ → ℕ → ℕ → List ℕ
 stored b p x = set (set (set (set b p (byteOf x 0)) (p + 1) (byteOf x 1)) (p + 2) (byteOf x 2)) (p + 3) (byteOf x 3)
 
--- the first k bytes of the file of l, over the bytes o
+-- byte j of the file of l; its first k bytes, over the bytes o
+abbrev pub fileByte : ℕ → List ℕ → ℕ → ℕ
+fileByte D l j = byteOf (words D l (j / blockBytes) (j % blockBytes / 4)) (j % 4)
+
 abbrev pub begun : ℕ → List ℕ → List ℕ → ℕ → List ℕ
 begun D l o k = sets o 0 (tabulated (fileByte D l) k)
 

@@ -7,8 +7,8 @@ use lib.ListN.{length}
 use lib.Seq.{length-sets}
 use Rattle.records.proofs.Writing.{sets-front}
 use Rattle.blocks.specs.Block.{blockBytes, tabulated}
-use Rattle.blocks.specs.File.{blocksOf, fileByte, fileOf}
-use Rattle.blocks.specs.Inner.{begun}
+use Rattle.blocks.specs.File.{blocksOf, fileOf}
+use Rattle.blocks.specs.Inner.{fileByte, begun}
 use Rattle.blocks.proofs.Files.{file-length}
 use Rattle.blocks.proofs.writer.put_blocks.Statement.{statement}
 use Rattle.blocks.proofs.writer.put_blocks.Tie as tie
