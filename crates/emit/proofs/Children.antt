@@ -3,17 +3,13 @@ use mathlib.Core.Path.{_≡_, refl, sym, ap, _∙_}
 use mathlib.Core.Bool.{Bool}
 use mathlib.Core.List.{List}
 use Prim.Native.Nat.{ℕ, _+_, _*_, _^_, _<_, _≤_}
-use native.Mathlib.Nat.{mul-le-mul-right, suc-mul, zero-mul}
+use native.Mathlib.Nat.{suc-mul, zero-mul}
 use native.Mathlib.Numerals.{add-one}
 use native.Mathlib.Omega.{arith}
 use lib.ListN.{length}
 use Rattle.emit.specs.declared.inner.Runs.{Runs}
 use Rattle.emit.specs.Inner.{Ready, Fed}
 use Rattle.emit.proofs.Runs.{fed-none, fed-to, fed-then}
-
--- child i, of span w, ends within the cell
-pub child-within : (i w : ℕ) → i < 8 → i * w + w ≤ 8 * w
-child-within i w h = omega (arith, mul-le-mul-right w h, suc-mul i w)
 
 -- the children before voxel p, i of them, have been fed
 pub record Children (D : ℕ) (P : ℕ → Bool) (from : ℕ) (out₀ : List ℕ) (r₀ : Runs) (w : ℕ) (out : List ℕ) (r : Runs) (p i : ℕ) : Type 0 where

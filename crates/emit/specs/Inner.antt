@@ -37,18 +37,21 @@ pub record Next (D : ℕ) (r : Runs) (from to : ℕ) : Type 0 where
 abbrev pub fresh : ℕ → ℕ → Runs
 fresh pos n = record { from = pos; to = pos; at = n }
 
--- The emitter's state where P is known below pos: the codes `cells` are put over o, and hold the voxels of P below `from`;
--- [from, to) is black and [to, pos) white; the parent of each first child among the codes has a white voxel.
-pub record Emitted (D : ℕ) (P : ℕ → Bool) (o out : List ℕ) (pos : ℕ) (r : Runs) : Type 0 where
+-- the codes put over o so far, n of them: they hold the voxels of P below `from`, and the parent of each first child among them has a white voxel
+pub record Laid (D : ℕ) (P : ℕ → Bool) (o out : List ℕ) (from n : ℕ) : Type 0 where
   pub cells : List ℕ
   pub ordered : Ordered D 0 cells
-  pub below : (v : ℕ) → v < r .from → black D cells v ≡ P v
-  pub above : (v : ℕ) → r .from ≤ v → black D cells v ≡ false
+  pub below : (v : ℕ) → v < from → black D cells v ≡ P v
+  pub above : (v : ℕ) → from ≤ v → black D cells v ≡ false
+  pub capped : (q : ℕ) → List·Memᴰ (8 * q) cells → White D P q
+  pub count : n ≡ length cells
+  pub written : out ≡ sets o 0 cells
+
+-- the emitter's state where P is known below pos: the codes stand for P below `from`, [from, to) is black and [to, pos) white
+pub record Emitted (D : ℕ) (P : ℕ → Bool) (o out : List ℕ) (pos : ℕ) (r : Runs) : Type 0 where
+  pub codes : Laid D P o out (r .from) (r .at)
   pub run : (v : ℕ) → r .from ≤ v → v < r .to → P v ≡ true
   pub gap : (v : ℕ) → r .to ≤ v → v < pos → P v ≡ false
-  pub capped : (q : ℕ) → List·Memᴰ (8 * q) cells → White D P q
-  pub count : r .at ≡ length cells
-  pub written : out ≡ sets o 0 cells
 
 -- What any writer does that goes through the voxels from `from` up to `to` and feeds the emitter with P's colours there: it takes the state r to s.
 -- Writers one after the other make one writer; `finish` ends them all.

@@ -23,7 +23,8 @@ pub mod Part
 pub mod Search
 -- what is written to the front of a buffer
 pub mod Writing
--- slots: the leaves that meet a cell and its children; arrays that a loop fills
+-- slots: a leaf against the edges of cells; the leaves that meet a cell and its children; arrays that a loop fills
+pub mod Edges
 pub mod SlotLaws
 pub mod Arrays
 -- what follows of the calls, and instances

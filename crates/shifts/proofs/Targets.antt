@@ -13,7 +13,6 @@ use Rattle.records.specs.Record.{black}
 use Rattle.records.proofs.Search.{proper-at}
 use Rattle.emit.specs.Inner.{Ready, fresh}
 use Rattle.emit.specs.declared.inner.Runs.{Runs}
-use Rattle.emit.proofs.Children.{child-within}
 use Rattle.shifts.specs.LabelSums.{sumLabel, carryLabel, Uses}
 use Rattle.shifts.specs.Shift.{shift, carry, cellOf, need, shifted}
 use Rattle.records.specs.Slot.{Source, Of, OfCell, SlotTint, tintOf, slotAt}
@@ -23,7 +22,8 @@ use Rattle.records.specs.declared.slots.Slot.{Slot}
 use Rattle.records.specs.declared.slots.Tint.{Tint}
 use Rattle.shifts.proofs.Bits.{sum-lt, carry-lt, uses-none, uses-carry}
 use Rattle.shifts.proofs.Adder.{shifted-in, source-cell, need-carries, needs-level, carries-lt, carry-none, child-cell, root-cell, low-labels, need-none}
-use Rattle.records.proofs.SlotLaws.{slot-colour, edge, eightOf, each-of-eight}
+use Rattle.records.proofs.Edges.{child-within, edge}
+use Rattle.records.proofs.SlotLaws.{slot-colour, eightOf, each-of-eight}
 
 -- ---- a target cell
 

@@ -13,7 +13,8 @@ use Rattle.records.specs.Inner.{Starts}
 use Rattle.records.specs.Slot.{Of, OfCell}
 use Rattle.records.specs.declared.slots.Slot.{Slot}
 use Rattle.records.proofs.Arrays.{Filled, filled-none, filled-more}
-use Rattle.records.proofs.SlotLaws.{Cut, cut-none, cut-next, cut-part, at-cell, slot-proper, slot-low, edge, edge-next, inside}
+use Rattle.records.proofs.Edges.{edge, edge-next, inside}
+use Rattle.records.proofs.SlotLaws.{Cut, cut-none, cut-next, cut-part, at-cell, slot-proper, slot-low}
 use Rattle.records.proofs.slots.cut_slot.Statement.{statement}
 use Rattle.records.proofs.slots.cut_slot.Tie as tie
 

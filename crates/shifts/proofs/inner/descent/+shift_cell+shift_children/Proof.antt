@@ -8,9 +8,10 @@ use borrow.Fn.Kinds.{In}
 use borrow.Fn.PlainCycle.{Measures, is, falls, and}
 use Rattle.cells.proofs.Power.{pow8-pos, pow8-suc, pow8-bits}
 use Rattle.cells.proofs.Words.{pow8-small}
+use Rattle.records.proofs.Edges.{child-within}
 use Rattle.emit.specs.Inner.{Next}
 use Rattle.emit.proofs.Runs.{fed-white, fed-to}
-use Rattle.emit.proofs.Children.{Children, children-none, children-more, children-all, child-within}
+use Rattle.emit.proofs.Children.{Children, children-none, children-more, children-all}
 use Rattle.shifts.specs.Shift.{shifted}
 use Rattle.shifts.specs.Descent.{Aimed, Divides}
 use Rattle.shifts.proofs.Bits.{uses-none}
