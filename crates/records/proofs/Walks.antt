@@ -22,7 +22,7 @@ use Rattle.records.specs.declared.inner.Walk.{Walk}
 use Rattle.cells.proofs.Cells.{within, span-pos}
 use Rattle.records.proofs.Fault.{not-early, faultless-good}
 use Rattle.records.proofs.First.{good-passes}
-use Rattle.records.proofs.Rows.{next-le, eight-run}
+use Rattle.records.proofs.Rows.{eight-run}
 
 -- ---- the fault at an index, by what is kept
 
@@ -49,7 +49,6 @@ begins D l w z p a b c d = record {
     is-past = b;
     is-run = c;
     is-sum = d;
-    short = omega arith;
     few = omega arith;
     count = zero-le;
     within = omega arith;
@@ -96,7 +95,6 @@ module _ (D : ℕ) (l : List ℕ) (i : ℕ) (w : Walk) (c : ℕ) (k : Kept D l i
   unfolding lastOf pastOf voxels
   goes p h some r number passed last past run sum =
       let none : fault D l i ≡ 0 = rw (by-kept, p, le-ltb (start D c) (w .past) h, ne-eqb (nextRun (w .last) (w .run) c) 8 some) in
-      let seven : r .run ≡ 8 → ⊥ = λ x. some (sym run ∙ x) in
       rw add-one
       (record {
         stopped = λ n. absurd (n number);
@@ -108,7 +106,6 @@ module _ (D : ℕ) (l : List ℕ) (i : ℕ) (w : Walk) (c : ℕ) (k : Kept D l i
           is-past = past ∙ ap (end D) (sym e);
           is-run = run ∙ sym next-is;
           is-sum = sum ∙ rw (e, k .is-sum);
-          short = omega (arith, next-le (w .last) (w .run) c, k .short, seven);
           few = omega (arith, k .few);
           count = omega (arith, k .count, span-pos D c);
           within = omega (arith, within D c p);

@@ -1,7 +1,7 @@
 -- INNER: a walk along a list, leaf by leaf, that finds its first fault: what is kept of the leaves passed. It asks for one code after the other, so the list
 -- may be lent as a slice or stand in bytes. Definitions only.
 use mathlib.Core.Path.{_≡_}
-use mathlib.Core.Bool.{true, false, _&&_}
+use mathlib.Core.Bool.{true, false, _&&_, _||_}
 use mathlib.Core.List.{List, [], _∷_}
 use Prim.Native.Nat.{ℕ, zero, suc, _+_, _-_, _%_, _^_, _≤_, _<_}
 use lib.Dec.{leb, eqb}
@@ -25,9 +25,9 @@ unfoldable pub voxels : ℕ → List ℕ → ℕ → ℕ
 voxels D l zero = 0
 voxels D l (suc i) = voxels D l i + span D (getD l i 0)
 
--- how many siblings in a row, from a first child on, end with the code c, where r of them end with the code p before it
+-- how many siblings in a row, from a first child on, end with the code c, where r of them end with the code p before it: as many as its label says, or none
 unfoldable pub nextRun : ℕ → ℕ → ℕ → ℕ
-nextRun p r c = elim (eqb (c % 8) 0) [ true ↦ 1 | false ↦ elim (leb 1 r && eqb (c - 1) p) [ true ↦ suc r | false ↦ 0 ] ]
+nextRun p r c = elim (eqb (c % 8) 0 || (leb 1 r && eqb (c - 1) p)) [ true ↦ suc (c % 8) | false ↦ 0 ]
 
 -- how many of them end with the first i codes
 unfoldable pub runOf : List ℕ → ℕ → ℕ
@@ -42,7 +42,6 @@ pub record Kept (D : ℕ) (l : List ℕ) (i : ℕ) (w : Walk) : Type 0 where
   pub is-past : w .past ≡ pastOf D l i
   pub is-run : w .run ≡ runOf l i
   pub is-sum : w .sum ≡ voxels D l i
-  pub short : w .run < 8
   pub few : w .sum ≤ w .past
   pub count : i ≤ w .past
   pub within : w .past ≤ 8 ^ D

@@ -7,7 +7,7 @@ use cells::inner::success;
 use cells::inner::width;
 ghost use mathlib.Core.Path.{_≡_};
 ghost use mathlib.Core.List.{List};
-ghost use Prim.Native.Nat.{ℕ, _+_, _≤_, _<_};
+ghost use Prim.Native.Nat.{ℕ, _+_, _≤_};
 ghost use lib.ListN.{length, getD};
 ghost use Rattle.cells.specs.Answer.{deepest};
 ghost use Rattle.records.specs.Record.{Ordered};
@@ -55,7 +55,6 @@ fn ended(number: u32, passed: u64) -> Walk
 
 // How many siblings in a row end with a code, where `run` of them end with the code `last` before it. A row begins with a first child.
 fn next_run(last: u32, run: u32, code: u32) -> u32
-    requires { ⌜ run < 8 ⌝ }
     ensures { λ r. ⌜ r ≡ nextRun last run code ⌝ }
 {
     if code % 8 == 0 {
@@ -65,7 +64,7 @@ fn next_run(last: u32, run: u32, code: u32) -> u32
         return 0;
     }
     if code - 1 == last {
-        return run + 1;
+        return code % 8 + 1;
     }
     0
 }

@@ -1,16 +1,22 @@
 -- `records::inner::next_run` meets its contract. Assumes nothing.
 use mathlib.Core.Path.{sym}
+use Prim.Native.Nat.{_-_}
+use mathlib.Core.Bool.{and-false}
 use native.Mathlib.Omega.{arith}
+use lib.Dec.{leb}
+use borrow.Author.Tests.{ne-eqb}
 use borrow.Author.Needs.{needs}
-use Rattle.records.proofs.Rows.{next-one, next-more, next-none, next-cut}
+use Rattle.records.proofs.Rows.{next-first, next-more, next-none}
 use Rattle.records.proofs.inner.next_run.Statement.{statement}
 use Rattle.records.proofs.inner.next_run.Tie as tie
 
 returns : tie.Need-returns
-returns c = let s = c .before .args in sym (next-one (s .last) (s .run) (s .code) (c .if1 .taken))
+returns c = let s = c .before .args in omega (arith, next-first (s .last) (s .run) (s .code) (c .if1 .taken), c .if1 .taken)
 
 returns-2 : tie.Need-returns-2
-returns-2 c = let s = c .before .before .args in sym (next-none (s .last) (s .run) (s .code) (c .before .if1 .left) (c .if2 .taken))
+returns-2 c =
+    let s = c .before .before .args in
+    sym (next-none (s .last) (s .run) (s .code) (c .before .if1 .left) (rw (c .if2 .taken)))
 
 returns-3 : tie.Need-returns-3
 returns-3 c =
@@ -20,7 +26,7 @@ returns-3 c =
 returns-4 : tie.Need-returns-4
 returns-4 c =
     let s = c .before .before .before .args in
-    sym (next-cut (s .last) (s .run) (s .code) (c .before .before .if1 .left) (omega (arith, c .before .if2 .left)) (c .if3 .left))
+    sym (next-none (s .last) (s .run) (s .code) (c .before .before .if1 .left) (rw (ne-eqb (s .code - 1) (s .last) (c .if3 .left)) (and-false (leb 1 (s .run)))))
 
 pub next-run-spec : {M : Type 1} → statement M
 next-run-spec = tie.close (tie.spec returns returns-2 (λ c. search needs) (λ c. search needs) returns-3 returns-4)

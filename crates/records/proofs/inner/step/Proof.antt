@@ -105,7 +105,7 @@ step-spec =
     (λ c κs. (s (u c) .pre .0, is c))
     (λ c κs. search needs)
     returns-3
-    (λ c κs. kept (u (p c)) .short)
+    (λ c κs. search needs)
     (λ c κs. search needs)
     returns-4
     (λ c κs. let q = p (c .before .before) in (s (u q) .pre .0, is q))
