@@ -1,16 +1,19 @@
 -- Tests that two answers with the lists written agree, that a list is good, and how the room of a buffer decides. Assumes nothing.
 use mathlib.Core.Path.{_≡_, refl, ap, ap₂, _∙_, subst}
 use mathlib.Core.Bool.{Bool, true, false, _&&_}
-use mathlib.Core.List.{List, [], _∷_, _++_}
-use Prim.Native.Nat.{ℕ, _≤_}
+use mathlib.Core.List.{List, [], _∷_}
+use Prim.Native.Nat.{ℕ, _≤_, _<_, zero-le}
+use native.Mathlib.Omega.{arith}
 use lib.Dec.{leb, eqb}
-use lib.ListN.{length, drop}
+use lib.ListN.{length}
 use borrow.Author.Tests.{leb-true, leb-false, eqb-true}
 use Rattle.cells.specs.Answer.{answer, given, deepest}
 use Rattle.cells.specs.declared.Answer.{Answer}
 use Rattle.cells.proofs.Bools.{both-true, clash}
 use Rattle.records.specs.Record.{Good, ListOf}
-use Rattle.records.specs.Fault.{firstFault}
+use Rattle.records.specs.Fault.{allFrom, fault}
+use Rattle.records.specs.Writing.{stands}
+use Rattle.records.proofs.Fill.{all-true}
 use Rattle.records.proofs.First.{faultless-iff-good}
 use Rattle.emit.proofs.Answers.{Told, told-crowded, told-written}
 use Rattle.demands.proofs.Outcomes.{Left}
@@ -49,17 +52,24 @@ agrees-is t r w e =
 
 -- what is left of the buffer o where a list is written at its front
 abbrev pub leaving : List ℕ → Left → Left
-leaving o t = (t .0, t .1 ++ drop (length (t .1)) o)
+leaving o t = (t .0, stands (t .1) o)
 
 -- ---- good lists
 
+-- none of the first n leaves has a fault
+abbrev pub faultless : ℕ → List ℕ → ℕ → Bool
+faultless D l n = allFrom (λ i. eqb (fault D l i) 0) 0 n
+
+pub faultless-is : (D : ℕ) (l : List ℕ) (n : ℕ) → faultless D l n ≡ true → (i : ℕ) → i < n → fault D l i ≡ 0
+faultless-is D l n e i h = eqb-true _ _ (all-true (λ j. eqb (fault D l j) 0) 0 n e i zero-le (omega arith))
+
 abbrev pub sound : ℕ → List ℕ → Bool
-sound D l = leb D deepest && eqb (firstFault D l) (length l)
+sound D l = leb D deepest && faultless D l (length l)
 
 pub sound-is : (D : ℕ) (l : List ℕ) → sound D l ≡ true → (D ≤ deepest) × Good D l
 sound-is D l e =
-    let (p, q) = both-true (leb D deepest) (eqb (firstFault D l) (length l)) e in
-    (leb-true D deepest p, faultless-iff-good D l .0 (eqb-true _ _ q))
+    let (p, q) = both-true (leb D deepest) (faultless D l (length l)) e in
+    (leb-true D deepest p, faultless-iff-good D l .0 (faultless-is D l (length l) q))
 
 -- ---- a list to be written to a buffer of n places
 

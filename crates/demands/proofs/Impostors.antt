@@ -1,28 +1,30 @@
 -- The impostors of document 01, "How tight the statements are": what each would leave at a named input does not fit the call's definition.
 -- Each follows from one right answer and the law that no second answer fits. Assumes nothing.
 use mathlib.Core.Path.{_≡_, sym, ap, ap₂, _∙_}
-use mathlib.Core.List.{List, [], _∷_, _++_}
+use mathlib.Core.List.{List, [], _∷_}
 use Prim.Native.Nat.{ℕ, _+_}
 use native.Mathlib.Omega.{arith}
 use lib.IntN.{pos, negsuc}
-use lib.ListN.{length, getD, drop}
+use lib.ListN.{length, getD}
 use Rattle.cells.specs.Answer.{answer, given}
 use Rattle.cells.specs.Corners.{PlaceOf, CodeOf}
 use Rattle.cells.specs.Neighbour.{NeighbourOf}
+use Rattle.cells.specs.Place.{axes}
 use Rattle.cells.specs.declared.Answer.{Answer}
 use Rattle.cells.specs.declared.corners.Corner.{Corner}
 use Rattle.cells.proofs.CornerLaws.{one-place, one-code}
 use Rattle.cells.proofs.NeighbourLaws.{one-neighbour-of}
 use Rattle.cells.proofs.Instances.{place-holds, code-holds, neighbour-holds}
 use Rattle.records.specs.Calls.{CheckOf, LookupOf, VolumeOf}
+use Rattle.records.specs.Writing.{stands}
 use Rattle.records.specs.Met.{MetOf, MetAtOf}
 use Rattle.records.proofs.CallLaws.{one-check, one-lookup, one-volume}
 use Rattle.records.proofs.MetLaws.{one-met-at}
 use Rattle.records.proofs.Instances.{lookup-holds, met-at-holds, met-fails}
 use Rattle.records.proofs.OneList.{one-list, list-of-itself}
-use Rattle.records.proofs.Volume.{blacks}
+use Rattle.records.proofs.Volumes.{blacks}
 use Rattle.sets.specs.declared.Op.{Op}
-use Rattle.sets.specs.declared.Op.the-variants.{Join, Meet, Less}
+use Rattle.sets.specs.declared.Op.the-variants.{Join, Intersect, Subtract}
 use Rattle.sets.specs.Sets.{SetOf}
 use Rattle.sets.proofs.SetLaws.{one-set}
 use Rattle.moves.specs.Moves.{MoveOf}
@@ -66,20 +68,20 @@ rejects-check r refused h = refused (ap (λ (s : Answer). s .number) (one-check 
 pub rejects-place : (r : Corner) → (Succeeds (r .answer) → ⊥) → PlaceOf 3 559 r → ⊥
 rejects-place r refused h = refused (ap (λ (s : Corner). s .answer .number) (one-place 3 559 r _ h place-holds))
 
-pub rejects-code : (r : Answer) → (Succeeds r → ⊥) → CodeOf 3 3 1 3 3 r → ⊥
-rejects-code r refused h = refused (ap (λ (s : Answer). s .number) (one-code 3 3 1 3 3 r _ h code-holds))
+pub rejects-code : (r : Answer) → (Succeeds r → ⊥) → CodeOf 3 (axes 3 1 3) 3 r → ⊥
+rejects-code r refused h = refused (ap (λ (s : Answer). s .number) (one-code 3 (axes 3 1 3) 3 r _ h code-holds))
 
-pub rejects-neighbour : (r : Answer) → (Succeeds r → ⊥) → NeighbourOf 3 994 (negsuc 0) (pos 1) (pos 1) r → ⊥
-rejects-neighbour r refused h = refused (ap (λ (s : Answer). s .number) (one-neighbour-of 3 994 (negsuc 0) (pos 1) (pos 1) r _ h neighbour-holds))
+pub rejects-neighbour : (r : Answer) → (Succeeds r → ⊥) → NeighbourOf 3 994 (axes (negsuc 0) (pos 1) (pos 1)) r → ⊥
+rejects-neighbour r refused h = refused (ap (λ (s : Answer). s .number) (one-neighbour-of 3 994 (axes (negsuc 0) (pos 1) (pos 1)) r _ h neighbour-holds))
 
 pub rejects-lookup : (r : Answer) → (Succeeds r → ⊥) → LookupOf 3 r057 3 1 3 r → ⊥
 rejects-lookup r refused h = refused (ap (λ (s : Answer). s .number) (one-lookup 3 r057 3 1 3 r _ h lookup-holds))
 
-pub rejects-met-at : (r : Answer) → (Succeeds r → ⊥) → MetAtOf 2 r0-r2 67 (pos 0) (pos 1) (pos 0) r → ⊥
-rejects-met-at r refused h = refused (ap (λ (s : Answer). s .number) (one-met-at 2 r0-r2 67 (pos 0) (pos 1) (pos 0) r _ h met-at-holds))
+pub rejects-met-at : (r : Answer) → (Succeeds r → ⊥) → MetAtOf 2 r0-r2 67 (axes (pos 0) (pos 1) (pos 0)) r → ⊥
+rejects-met-at r refused h = refused (ap (λ (s : Answer). s .number) (one-met-at 2 r0-r2 67 (axes (pos 0) (pos 1) (pos 0)) r _ h met-at-holds))
 
 -- the empty part at the list's beginning, as where `met` is refused
-pub rejects-met : MetOf 2 r0-r2 (5, 0) 67 (pos 0) (pos 1) (pos 0) [] (5, 0) → ⊥
+pub rejects-met : MetOf 2 r0-r2 (5, 0) 67 (axes (pos 0) (pos 1) (pos 0)) [] (5, 0) → ⊥
 rejects-met = met-fails
 
 -- ---- one that hands out a fixed list, or a fixed answer: no one answer fits two inputs
@@ -89,8 +91,8 @@ fixed-set op r o h k = differ op (ap place (sym (one-set op 1 a b room (r, o) _ 
   where
     differ : (op : Op) → length (made op) ≡ length (twice op) → ⊥
     differ Join e = omega arith
-    differ Meet e = omega arith
-    differ Less e = omega arith
+    differ Intersect e = omega arith
+    differ Subtract e = omega arith
 
 pub fixed-move : (r : Answer) (o : List ℕ) → MoveOf 3 r057 (north 5) room r o → MoveOf 3 r057 (north 1) room r o → ⊥
 fixed-move r o h k =
@@ -108,10 +110,10 @@ fixed-check r h k = let e : _≡_ {A = ℕ} 1 0 = ap (λ (s : Answer). s .place)
 pub silent-set : (op : Op) (r : Answer) → SetOf op 1 a b room r room → ⊥
 silent-set op r h = differ op (ap front (one-set op 1 a b room (r, room) _ h (right-made op)))
   where
-    differ : (op : Op) → 5 ≡ getD (made op ++ drop (length (made op)) room) 0 0 → ⊥
+    differ : (op : Op) → 5 ≡ getD (stands (made op) room) 0 0 → ⊥
     differ Join e = omega arith
-    differ Meet e = omega arith
-    differ Less e = omega arith
+    differ Intersect e = omega arith
+    differ Subtract e = omega arith
 
 pub silent-move : (r : Answer) → MoveOf 3 r057 (north 5) room r room → ⊥
 silent-move r h = let e : _≡_ {A = ℕ} 5 701 = ap front (one-move 3 r057 (north 5) room (r, room) _ h right-far) in omega arith
@@ -139,11 +141,11 @@ invented-room-move n o other h = other (ap place (one-move 2 r0 east seven (answ
 -- ---- one that moves along x and skips y and z: it keeps the laws of demand 3, and what it leaves does not fit the move
 
 pub along-x : TwoMoves alongX × ((op : Op) → Distributes alongX (SetOf op)) × KeepsVolume alongX
-    × ((r : Answer) (o : List ℕ) → alongX 3 r057 (pos 0) (pos 5) (pos 0) room r o → move 3 r057 (pos 0) (pos 5) (pos 0) room r o → ⊥)
+    × ((r : Answer) (o : List ℕ) → alongX 3 r057 (axes (pos 0) (pos 5) (pos 0)) room r o → move 3 r057 (axes (pos 0) (pos 5) (pos 0)) room r o → ⊥)
 along-x = (
-  λ D l dx dy dz ex ey ez. two-moves D l dx (pos 0) (pos 0) ex (pos 0) (pos 0),
-  λ op D l m dx dy dz. distributes op D l m dx (pos 0) (pos 0),
-  λ D l dx dy dz. keeps-volume D l dx (pos 0) (pos 0),
+  λ D l d e. two-moves D l (axes (d 0) (pos 0) (pos 0)) (axes (e 0) (pos 0) (pos 0)),
+  λ op D l m d. distributes op D l m (axes (d 0) (pos 0) (pos 0)),
+  λ D l d. keeps-volume D l (axes (d 0) (pos 0) (pos 0)),
   λ r o h k.
       let e : _≡_ {A = ℕ} 559 701 = ap front (sym (one-move 3 r057 (north 0) room (r, o) _ h right-still) ∙ one-move 3 r057 (north 5) room (r, o) _ k right-far) in
       omega arith,
@@ -153,7 +155,7 @@ along-x = (
 
 pub first-and-second : VolumesAddUp firstList secondList
     × ((r : Answer) (o : List ℕ) → firstList 1 a b room r o → SetOf Join 1 a b room r o → ⊥)
-    × ((r : Answer) (o : List ℕ) → secondList 1 a b room r o → SetOf Meet 1 a b room r o → ⊥)
+    × ((r : Answer) (o : List ℕ) → secondList 1 a b room r o → SetOf Intersect 1 a b room r o → ⊥)
 first-and-second = (
   add-up (λ A B. A) (λ A B. B)
       (λ D l m j i gl gm x y.
@@ -165,7 +167,7 @@ first-and-second = (
       let f : _≡_ {A = ℕ} 3 2 = ap length (sym (ap (λ (t : Left). wrote (t .0) (t .1)) e) ∙ same) in
       omega arith,
   λ r o h k.
-      let e = one-set Meet 1 a b room (r, o) _ k (right-made Meet) in
+      let e = one-set Intersect 1 a b room (r, o) _ k (right-made Intersect) in
       let x = combine-succeeds (λ A B. B) 1 a b room o r h (ap number e) in
       let same : wrote r o ≡ b = one-list 1 _ _ b (x .gives .list) (list-of-itself 1 b (x .good-second)) in
       let f : _≡_ {A = ℕ} 1 2 = ap length (sym (ap (λ (t : Left). wrote (t .0) (t .1)) e) ∙ same) in

@@ -1,25 +1,26 @@
 -- Named inputs for the impostors of document 01, with the right answer of each, worked out. Assumes nothing.
 use mathlib.Core.Path.{_≡_, refl}
 use mathlib.Core.Bool.{true}
-use mathlib.Core.List.{List, [], _∷_, _++_}
+use mathlib.Core.List.{List, [], _∷_}
 use Prim.Native.Nat.{ℕ}
 use lib.IntN.{pos}
-use lib.ListN.{length, drop}
+use lib.ListN.{length}
+use Rattle.records.specs.Writing.{stands}
 use Rattle.cells.specs.Answer.{answer, given}
 use Rattle.cells.specs.Cell.{topBit, level, proper, index, side, start, span, holds}
 use Rattle.cells.specs.Place.{along, number, corner}
 use Rattle.records.specs.Calls.{CheckOf, VolumeOf}
 use Rattle.records.specs.Count.{count}
-use Rattle.records.specs.Fault.{allFrom, early, eightAt, fault, firstFrom, firstFault}
+use Rattle.records.specs.Fault.{allFrom, early, eightAt, fault}
 use Rattle.records.specs.Record.{black}
 use Rattle.records.proofs.Fill.{upto, leaves, goodList}
 use Rattle.sets.specs.declared.Op.{Op}
-use Rattle.sets.specs.declared.Op.the-variants.{Join, Meet, Less}
+use Rattle.sets.specs.declared.Op.the-variants.{Join, Intersect, Subtract}
 use Rattle.sets.specs.Inner.{both}
 use Rattle.sets.specs.Sets.{SetOf}
 use Rattle.metres.specs.declared.Move.{Move}
 use Rattle.metres.specs.declared.Move.the-variants.{Voxels}
-use Rattle.shifts.specs.Labels.{sumLabel, carryLabel}
+use Rattle.shifts.specs.LabelSums.{sumLabel, carryLabel}
 use Rattle.shifts.specs.Shift.{shift, shifted}
 use Rattle.moves.specs.Inner.{keepsAlong, leafKeeps, turned, back}
 use Rattle.moves.specs.Moves.{MoveOf}
@@ -37,14 +38,14 @@ b = 9 ∷ 10 ∷ []
 
 abbrev pub made : Op → List ℕ
 made Join = 8 ∷ 9 ∷ 10 ∷ []
-made Meet = 9 ∷ []
-made Less = 8 ∷ []
+made Intersect = 9 ∷ []
+made Subtract = 8 ∷ []
 
 -- and of the second list with itself
 abbrev pub twice : Op → List ℕ
 twice Join = b
-twice Meet = b
-twice Less = []
+twice Intersect = b
+twice Subtract = []
 
 -- a buffer with something in it
 abbrev pub room : List ℕ
@@ -78,7 +79,7 @@ abbrev row-crowded : Op → Row
 row-crowded op = makes op 1 a b 0 (answer 8 (length (made op)) 0) []
 
 abbrev of-op : (Op → Row) → List Row → List Row
-of-op f rows = f Join ∷ f Meet ∷ f Less ∷ rows
+of-op f rows = f Join ∷ f Intersect ∷ f Subtract ∷ rows
 
 abbrev named : List Row
 named =
@@ -93,7 +94,7 @@ named =
     ∷ of-op row (of-op row-twice (of-op row-crowded []))
 
 named-work : allWork named ≡ true
-unfolding topBit level proper index side start span holds along number corner count allFrom early eightAt fault firstFrom firstFault black upto leaves goodList both sumLabel carryLabel shift shifted keepsAlong leafKeeps turned back
+unfolding topBit level proper index side start span holds along number corner count allFrom early eightAt fault black upto leaves goodList both sumLabel carryLabel shift shifted keepsAlong leafKeeps turned back
 named-work = refl
 
 right : All Fits named
@@ -128,13 +129,13 @@ right-volume-none = right .1 .1 .1 .1 .1 .1 .1 .0
 -- the rows of an operation, in the rows that begin with those of all three
 of-each : (f : Op → Row) (rows : List Row) → All Fits (of-op f rows) → (op : Op) → Fits (f op)
 of-each f rows t Join = t .0
-of-each f rows t Meet = t .1 .0
-of-each f rows t Less = t .1 .1 .0
+of-each f rows t Intersect = t .1 .0
+of-each f rows t Subtract = t .1 .1 .0
 
-pub right-made : (op : Op) → SetOf op 1 a b room (given (length (made op))) (made op ++ drop (length (made op)) room)
+pub right-made : (op : Op) → SetOf op 1 a b room (given (length (made op))) (stands (made op) room)
 right-made op = of-each row (of-op row-twice (of-op row-crowded [])) (right .1 .1 .1 .1 .1 .1 .1 .1) op room refl
 
-pub right-twice : (op : Op) → SetOf op 1 b b room (given (length (twice op))) (twice op ++ drop (length (twice op)) room)
+pub right-twice : (op : Op) → SetOf op 1 b b room (given (length (twice op))) (stands (twice op) room)
 right-twice op = of-each row-twice (of-op row-crowded []) (right .1 .1 .1 .1 .1 .1 .1 .1 .1 .1 .1) op room refl
 
 pub right-crowded : (op : Op) → SetOf op 1 a b [] (answer 8 (length (made op)) 0) []

@@ -7,19 +7,19 @@ use Rattle.cells.specs.Inner.{digitOf}
 use Rattle.cells.specs.Payeur.{under, rule, stepped, carried}
 use Rattle.cells.specs.Place.{along, number, corner}
 use Rattle.records.specs.Count.{count}
-use Rattle.records.specs.Fault.{allFrom, early, eightAt, fault, firstFrom, firstFault}
+use Rattle.records.specs.Fault.{allFrom, early, eightAt, fault}
 use Rattle.records.specs.Record.{black}
 use Rattle.records.proofs.Fill.{upto, leaves, goodList}
 use Rattle.sets.specs.Inner.{both}
 use Rattle.metres.proofs.Rounding.{rounded}
-use Rattle.shifts.specs.Labels.{sumLabel, carryLabel}
+use Rattle.shifts.specs.LabelSums.{sumLabel, carryLabel}
 use Rattle.shifts.specs.Shift.{shift, shifted}
 use Rattle.moves.specs.Inner.{keepsAlong, leafKeeps, turned, back}
 use Rattle.demands.specs.Examples.{Fits, All, table}
 use Rattle.demands.proofs.Worked.{allWork, all-fit}
 
 all-work : allWork table ≡ true
-unfolding topBit level proper index side start span holds digitOf under rule stepped carried along number corner count allFrom early eightAt fault firstFrom firstFault black upto leaves goodList both rounded ofBits sumLabel carryLabel shift shifted keepsAlong leafKeeps turned back
+unfolding topBit level proper index side start span holds digitOf under rule stepped carried along number corner count allFrom early eightAt fault black upto leaves goodList both rounded ofBits sumLabel carryLabel shift shifted keepsAlong leafKeeps turned back
 all-work = refl
 
 pub starred : All Fits table

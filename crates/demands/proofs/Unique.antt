@@ -14,7 +14,7 @@ use Rattle.records.specs.Calls.{CheckOf, LookupOf, VolumeOf}
 use Rattle.records.specs.Met.{MetOf, MetAtOf}
 use Rattle.records.proofs.CallLaws.{one-check, one-lookup, one-volume}
 use Rattle.records.proofs.MetLaws.{one-met, one-met-at}
-use Rattle.sets.specs.declared.Op.the-variants.{Join, Meet, Less}
+use Rattle.sets.specs.declared.Op.the-variants.{Join, Intersect, Subtract}
 use Rattle.sets.specs.Sets.{SetOf}
 use Rattle.sets.proofs.SetLaws.{one-set}
 use Rattle.metres.specs.declared.Move.{Move}
@@ -37,10 +37,10 @@ OnlyOne P = One (λ (t : Answer × List ℕ). P (t .0) (t .1))
 pub only-place : (D c : ℕ) → One (PlaceOf D c)
 only-place = one-place
 
-pub only-code : (D x y z k : ℕ) → One (CodeOf D x y z k)
+pub only-code : (D : ℕ) (x : ℕ → ℕ) (k : ℕ) → One (CodeOf D x k)
 only-code = one-code
 
-pub only-neighbour : (D c : ℕ) (dx dy dz : ℤ) → One (NeighbourOf D c dx dy dz)
+pub only-neighbour : (D c : ℕ) (d : ℕ → ℤ) → One (NeighbourOf D c d)
 only-neighbour = one-neighbour-of
 
 -- ---- records
@@ -55,12 +55,12 @@ pub only-volume : (D : ℕ) (l : List ℕ) → One (VolumeOf D l)
 only-volume = one-volume
 
 -- the returned part and where it begins in memory
-pub only-met : (D : ℕ) (l : List ℕ) (p : ℕ × ℕ) (c : ℕ) (dx dy dz : ℤ) → One (λ (t : List ℕ × (ℕ × ℕ)). MetOf D l p c dx dy dz (t .0) (t .1))
-only-met D l p c dx dy dz t u h k =
-    let (same, begins) = one-met D l c dx dy dz p (t .0) (u .0) (t .1) (u .1) h k in
+pub only-met : (D : ℕ) (l : List ℕ) (p : ℕ × ℕ) (c : ℕ) (d : ℕ → ℤ) → One (λ (t : List ℕ × (ℕ × ℕ)). MetOf D l p c d (t .0) (t .1))
+only-met D l p c d t u h k =
+    let (same, begins) = one-met D l c d p (t .0) (u .0) (t .1) (u .1) h k in
     ap₂ (λ (r : List ℕ) (q : ℕ × ℕ). (r, q)) same begins
 
-pub only-met-at : (D : ℕ) (l : List ℕ) (c : ℕ) (dx dy dz : ℤ) → One (MetAtOf D l c dx dy dz)
+pub only-met-at : (D : ℕ) (l : List ℕ) (c : ℕ) (d : ℕ → ℤ) → One (MetAtOf D l c d)
 only-met-at = one-met-at
 
 -- ---- sets
@@ -68,11 +68,11 @@ only-met-at = one-met-at
 pub only-join : (D : ℕ) (a b o : List ℕ) → OnlyOne (SetOf Join D a b o)
 only-join = one-set Join
 
-pub only-meet : (D : ℕ) (a b o : List ℕ) → OnlyOne (SetOf Meet D a b o)
-only-meet = one-set Meet
+pub only-intersect : (D : ℕ) (a b o : List ℕ) → OnlyOne (SetOf Intersect D a b o)
+only-intersect = one-set Intersect
 
-pub only-less : (D : ℕ) (a b o : List ℕ) → OnlyOne (SetOf Less D a b o)
-only-less = one-set Less
+pub only-subtract : (D : ℕ) (a b o : List ℕ) → OnlyOne (SetOf Subtract D a b o)
+only-subtract = one-set Subtract
 
 -- ---- moves
 
@@ -103,7 +103,7 @@ only-refused = one-refused
 
 -- ---- the C controller's calls
 
-pub only-cab-neighbour : (D c : ℕ) (dx dy dz : ℤ) → One (Packed (NeighbourOf D c dx dy dz))
+pub only-cab-neighbour : (D c : ℕ) (d : ℕ → ℤ) → One (Packed (NeighbourOf D c d))
 only-cab-neighbour = one-cab-neighbour
 
 pub only-cab-check-blocks : (b : List ℕ) → One (Packed (BlockCheckOf b))
