@@ -1,10 +1,8 @@
 // Cells and codes, and neighbours.
 use crate::print;
-use cells::corners;
-use cells::neighbours;
 
 fn place(depth: u32, code: u32) {
-    let r = corners::place(depth, code);
+    let r = cells::place(depth, code);
     let a = r.answer;
     print::text(b"place");
     print::number(depth as u64);
@@ -26,7 +24,7 @@ fn code(depth: u32, x: u32, y: u32, z: u32, level: u32) {
     print::number(y as u64);
     print::number(z as u64);
     print::number(level as u64);
-    print::answer(corners::code(depth, x, y, z, level));
+    print::answer(cells::code(depth, x, y, z, level));
     print::end();
 }
 
@@ -37,7 +35,7 @@ fn neighbour(depth: u32, code: u32, dx: i32, dy: i32, dz: i32) {
     print::signed(dx);
     print::signed(dy);
     print::signed(dz);
-    print::answer(neighbours::neighbour(depth, code, dx, dy, dz));
+    print::answer(cells::neighbour(depth, code, dx, dy, dz));
     print::end();
 }
 

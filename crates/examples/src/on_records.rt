@@ -1,13 +1,11 @@
 // Lists: check, volume, lookup, leaves met.
 use crate::print;
-use records::checks;
-use records::met;
 
 fn check(depth: u32, list: &[u32]) {
     print::text(b"check");
     print::number(depth as u64);
     print::codes(list);
-    print::answer(checks::check(depth, list));
+    print::answer(records::check(depth, list));
     print::end();
 }
 
@@ -15,7 +13,7 @@ fn volume(depth: u32, list: &[u32]) {
     print::text(b"volume");
     print::number(depth as u64);
     print::codes(list);
-    print::answer(checks::volume(depth, list));
+    print::answer(records::volume(depth, list));
     print::end();
 }
 
@@ -26,7 +24,7 @@ fn lookup(depth: u32, list: &[u32], x: u32, y: u32, z: u32) {
     print::number(x as u64);
     print::number(y as u64);
     print::number(z as u64);
-    print::answer(checks::lookup(depth, list, x, y, z));
+    print::answer(records::lookup(depth, list, x, y, z));
     print::end();
 }
 
@@ -38,8 +36,8 @@ fn meet_neighbour(depth: u32, list: &[u32], code: u32, dx: i32, dy: i32, dz: i32
     print::signed(dx);
     print::signed(dy);
     print::signed(dz);
-    print::answer(met::met_at(depth, list, code, dx, dy, dz));
-    print::codes(met::met(depth, list, code, dx, dy, dz));
+    print::answer(records::met_at(depth, list, code, dx, dy, dz));
+    print::codes(records::met(depth, list, code, dx, dy, dz));
     print::end();
 }
 

@@ -1,23 +1,22 @@
 // Join, intersection and difference, each with so much room for its result.
 use crate::print;
 use cells::Answer;
-use records::checks;
 use sets::Op;
 
 // The call by its name.
 fn name(op: Op) {
     match op {
         Op::Join => print::text(b"join"),
-        Op::Meet => print::text(b"intersect"),
-        Op::Less => print::text(b"subtract"),
+        Op::Intersect => print::text(b"intersect"),
+        Op::Subtract => print::text(b"subtract"),
     }
 }
 
 fn call(op: Op, depth: u32, a: &[u32], b: &[u32], out: &mut [u32]) -> Answer {
     match op {
         Op::Join => sets::join(depth, a, b, out),
-        Op::Meet => sets::meet(depth, a, b, out),
-        Op::Less => sets::less(depth, a, b, out),
+        Op::Intersect => sets::intersect(depth, a, b, out),
+        Op::Subtract => sets::subtract(depth, a, b, out),
     }
 }
 
@@ -35,7 +34,7 @@ fn made(op: Op, depth: u32, a: &[u32], b: &[u32], room: usize) {
     print::answer(r);
     print::front(r, out);
     print::text(b" volume of the room");
-    print::answer(checks::volume(depth, out));
+    print::answer(records::volume(depth, out));
     print::end();
 }
 
@@ -44,8 +43,8 @@ fn published() {
     made(Op::Join, 1, &[8, 9, 10, 11], &[12, 13, 14, 15], 1);
     made(Op::Join, 1, &[8, 9, 10, 11], &[12, 13, 14, 15], 0);
     // r less r057 has 21 leaves and volume 511; 20 places are one short, and hold what they held: 0, which is no code
-    made(Op::Less, 3, &[1], &[559], 21);
-    made(Op::Less, 3, &[1], &[559], 20);
+    made(Op::Subtract, 3, &[1], &[559], 21);
+    made(Op::Subtract, 3, &[1], &[559], 20);
 }
 
 fn levels_and_refusals() {
@@ -57,8 +56,8 @@ fn levels_and_refusals() {
         &[68, 69, 70, 71],
         1,
     );
-    made(Op::Meet, 3, &[1], &[559], 1);
-    made(Op::Meet, 3, &[558], &[559], 0);
+    made(Op::Intersect, 3, &[1], &[559], 1);
+    made(Op::Intersect, 3, &[558], &[559], 0);
     // refusals: the depth, the first list before the second
     made(Op::Join, 11, &[0], &[0], 4);
     made(Op::Join, 3, &[0], &[2], 4);

@@ -1,12 +1,13 @@
 // The calls of the crate cells.
 use crate::inner::tell;
-use cells::corners::code;
-use cells::corners::place;
-use cells::neighbours::neighbour;
+use cells::code;
+use cells::neighbour;
+use cells::place;
 ghost use mathlib.Core.Path.{_≡_};
 ghost use Rattle.cells.specs.declared.corners.Corner.{Corner};
 ghost use Rattle.cells.specs.Corners.{PlaceOf, CodeOf};
 ghost use Rattle.cells.specs.Neighbour.{NeighbourOf};
+ghost use Rattle.cells.specs.Place.{axes};
 ghost use Rattle.probe.specs.Probe.{told, Probed, Tells};
 
 #[no_mangle]
@@ -31,7 +32,7 @@ pub extern "C" fn probe_place(depth: u32, code: u32, answer: &mut [u64])
 
 #[no_mangle]
 pub extern "C" fn probe_code(depth: u32, x: u32, y: u32, z: u32, level: u32, answer: &mut [u64])
-    ensures { λ _. ⌜ Tells (now (answer .entry)) (now (answer .exit)) (CodeOf depth x y z level) ⌝ }
+    ensures { λ _. ⌜ Tells (now (answer .entry)) (now (answer .exit)) (CodeOf depth (axes x y z) level) ⌝ }
 {
     if answer.len() < 8 {
         return;
@@ -48,7 +49,7 @@ pub extern "C" fn probe_neighbour(
     dz: i32,
     answer: &mut [u64],
 )
-    ensures { λ _. ⌜ Tells (now (answer .entry)) (now (answer .exit)) (NeighbourOf depth code dx dy dz) ⌝ }
+    ensures { λ _. ⌜ Tells (now (answer .entry)) (now (answer .exit)) (NeighbourOf depth code (axes dx dy dz)) ⌝ }
 {
     if answer.len() < 8 {
         return;

@@ -1,10 +1,10 @@
 // The calls of the crate records.
 use crate::inner::tell;
-use records::checks::check;
-use records::checks::lookup;
-use records::checks::volume;
-use records::met::met;
-use records::met::met_at;
+use records::check;
+use records::lookup;
+use records::met;
+use records::met_at;
+use records::volume;
 ghost use mathlib.Core.Path.{_≡_};
 ghost use mathlib.Core.List.{List};
 ghost use Prim.Native.Nat.{ℕ};
@@ -13,6 +13,7 @@ ghost use denote.Ref.{ptr};
 ghost use Rattle.cells.specs.declared.Answer.{Answer};
 ghost use Rattle.records.specs.Calls.{CheckOf, LookupOf, VolumeOf};
 ghost use Rattle.records.specs.Met.{MetOf, MetAtOf};
+ghost use Rattle.cells.specs.Place.{axes};
 ghost use Rattle.probe.specs.Probe.{told, Probed, Tells, copied};
 
 #[no_mangle]
@@ -72,8 +73,8 @@ pub extern "C" fn probe_met(
     answer: &mut [u64],
 )
     ensures { λ _. ⌜ Probed (now (answer .entry)) ((now (answer .exit) ≡ now (answer .entry)) × (now (part .exit) ≡ now (part .entry)))
-        ((a : Answer) × (r : List ℕ) × (q : ℕ × ℕ) × MetAtOf depth (now (list .entry)) code dx dy dz a
-        × MetOf depth (now (list .entry)) (ptr (list .entry)) code dx dy dz r q
+        ((a : Answer) × (r : List ℕ) × (q : ℕ × ℕ) × MetAtOf depth (now (list .entry)) code (axes dx dy dz) a
+        × MetOf depth (now (list .entry)) (ptr (list .entry)) code (axes dx dy dz) r q
         × (now (answer .exit) ≡ told (now (answer .entry)) a (length r) 0 0 0) × (now (part .exit) ≡ copied r (now (part .entry)))) ⌝ }
 {
     if answer.len() < 8 {

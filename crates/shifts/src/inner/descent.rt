@@ -145,10 +145,7 @@ pub fn shift_list(depth: u32, l: &[u32], w: u32, out: &mut [u32]) -> usize
         to: 0,
         at: 0,
     };
-    let all = Slot {
-        lo: 0,
-        hi: l.len(),
-    };
+    let all = Slot { lo: 0, hi: l.len() };
     let root = Target {
         from: 0,
         k: depth,
