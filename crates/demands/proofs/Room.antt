@@ -13,7 +13,7 @@ use Rattle.records.specs.Record.{Good}
 use Rattle.records.proofs.Most.{most, most-leaves}
 use Rattle.emit.proofs.Answers.{Told}
 use Rattle.sets.specs.declared.Op.{Op}
-use Rattle.sets.specs.Sets.{Takes, SetOf}
+use Rattle.sets.specs.Sets.{Chosen, SetOf}
 use Rattle.demands.specs.Laws.{move, Roomy}
 use Rattle.demands.proofs.Outcomes.{displacement, Outcome, move-carries, combine-told}
 
@@ -30,4 +30,4 @@ module _ (D : ℕ) (o o' : List ℕ) (r : Answer) (shallow : D ≤ deepest) (roo
       go (inr (_, t)) z = told-roomy D _ o o' r room t z
 
   pub set-roomy : (op : Op) (a b : List ℕ) → Good D a → Good D b → SetOf op D a b o r o' → Roomy r
-  set-roomy op a b ga gb m = told-roomy D _ o o' r room (combine-told (Takes op) D a b o o' r shallow ga gb m)
+  set-roomy op a b ga gb m = told-roomy D _ o o' r room (combine-told (Chosen op) D a b o o' r shallow ga gb m)

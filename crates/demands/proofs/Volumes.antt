@@ -14,7 +14,7 @@ use Rattle.records.proofs.Volumes.{blacks, join-volume}
 use Rattle.records.proofs.Carrying.{carried-volume}
 use Rattle.sets.specs.declared.Op.{Op}
 use Rattle.sets.specs.declared.Op.the-variants.{Join, Intersect}
-use Rattle.sets.specs.Sets.{Takes, InResult, SetOf}
+use Rattle.sets.specs.Sets.{Chosen, InResult, SetOf}
 use Rattle.sets.specs.Inner.{both}
 use Rattle.sets.proofs.Pieces.{exactly}
 use Rattle.demands.specs.Laws.{Carrier, move, wrote, KeepsVolume, VolumesAddUp}
@@ -73,4 +73,4 @@ colour-made op D a b c x v h =
 
 pub volumes-add-up : VolumesAddUp (SetOf Join) (SetOf Intersect)
 unfolding both
-volumes-add-up = add-up (Takes Join) (Takes Intersect) (λ D a b j i ga gb x y. join-volume D a b j i (colour-made Join D a b j x) (colour-made Intersect D a b i y))
+volumes-add-up = add-up (Chosen Join) (Chosen Intersect) (λ D a b j i ga gb x y. join-volume D a b j i (colour-made Join D a b j x) (colour-made Intersect D a b i y))

@@ -12,7 +12,7 @@ use Rattle.records.specs.Writing.{Crowded, Written}
 use Rattle.demands.specs.Laws.{Carrier, Combiner, move}
 
 -- A call with the tests of join, intersect and subtract, that gives the good list of the voxels that T takes, from whether they are black in the first list and in the
--- second. `SetOf op` is `Combines (Takes op)`.
+-- second. `SetOf op` is `Combines (Chosen op)`.
 abbrev pub Combines : (Type 0 → Type 0 → Type 0) → Combiner
 Combines T D a b o r o' =
     let Q : ℕ → Type 0 = λ v. T (black D a v ≡ true) (black D b v ≡ true) in

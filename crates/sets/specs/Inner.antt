@@ -11,14 +11,14 @@ use Rattle.sets.specs.declared.inner.Cursor.{Cursor}
 use Rattle.sets.specs.declared.inner.Side.{Side}
 
 -- whether a voxel is black in the result, from its colours in the two lists
-abbrev pub coloured : Op → Bool → Bool → Bool
-coloured Join a b = a || b
-coloured Intersect a b = a && b
-coloured Subtract a b = a && not b
+abbrev pub chosen : Op → Bool → Bool → Bool
+chosen Join a b = a || b
+chosen Intersect a b = a && b
+chosen Subtract a b = a && not b
 
 -- the voxels of the result
 unfoldable pub both : Op → ℕ → List ℕ → List ℕ → ℕ → Bool
-both op D a b v = coloured op (black D a v) (black D b v)
+both op D a b v = chosen op (black D a v) (black D b v)
 
 -- from voxel v on, the list l is its leaves from index i on, and none of these starts before v
 pub record Behind (D : ℕ) (l : List ℕ) (i v : ℕ) : Type 0 where

@@ -13,14 +13,14 @@ use Rattle.sets.specs.declared.Op.{Op}
 use Rattle.sets.specs.declared.Op.the-variants.{Join, Intersect, Subtract}
 
 -- in either list; in both; in the first but not the second
-abbrev pub Takes : Op → Type 0 → Type 0 → Type 0
-Takes Join A B = A ⊎ B
-Takes Intersect A B = A × B
-Takes Subtract A B = A × (B → ⊥)
+abbrev pub Chosen : Op → Type 0 → Type 0 → Type 0
+Chosen Join A B = A ⊎ B
+Chosen Intersect A B = A × B
+Chosen Subtract A B = A × (B → ⊥)
 
 -- the voxels of the result
 abbrev pub InResult : Op → ℕ → List ℕ → List ℕ → ℕ → Type 0
-InResult op D a b v = Takes op (black D a v ≡ true) (black D b v ≡ true)
+InResult op D a b v = Chosen op (black D a v ≡ true) (black D b v ≡ true)
 
 -- THE CALLS join, intersection and difference, on the lists a and b and the buffer o: the answer r and the buffer o' afterwards
 abbrev pub SetOf : Op → ℕ → List ℕ → List ℕ → List ℕ → Answer → List ℕ → Type 0

@@ -17,7 +17,7 @@ ghost use Rattle.records.specs.Record.{Ordered};
 ghost use Rattle.records.specs.Writing.{Crowded, Written};
 ghost use Rattle.emit.specs.Inner.{Result};
 ghost use Rattle.sets.specs.Sets.{InResult};
-ghost use Rattle.sets.specs.Inner.{coloured, both, Behind, Points, Steady};
+ghost use Rattle.sets.specs.Inner.{chosen, both, Behind, Points, Steady};
 
 // A leaf of a list: its index, its least voxel number and the one after its last. Past the last leaf both are the root's end.
 pub struct Cursor {
@@ -33,7 +33,7 @@ pub struct Side {
 }
 
 fn takes(op: Op, a: bool, b: bool) -> bool
-    ensures { λ r. ⌜ r ≡ coloured op a b ⌝ }
+    ensures { λ r. ⌜ r ≡ chosen op a b ⌝ }
 {
     match op {
         Op::Join => a || b,
