@@ -32,7 +32,7 @@ pub struct Side {
     pub until: u32,
 }
 
-fn takes(op: Op, a: bool, b: bool) -> bool
+fn choose(op: Op, a: bool, b: bool) -> bool
     ensures { λ r. ⌜ r ≡ chosen op a b ⌝ }
 {
     match op {
@@ -122,7 +122,7 @@ fn sweep(op: Op, depth: u32, a: &[u32], b: &[u32], out: &mut [u32]) -> usize
         let s = look(x, v);
         let t = look(y, v);
         let next = least(s.until, t.until);
-        r = push(depth, r, takes(op, s.black, t.black), v, next, out);
+        r = push(depth, r, choose(op, s.black, t.black), v, next, out);
         x = pass(depth, a, x, next);
         y = pass(depth, b, y, next);
         v = greatest(next, least(x.from, y.from));
