@@ -9,16 +9,16 @@ use lib.Seq.{getD-set-same, getD-set-other}
 use Rattle.cells.proofs.Power.{le-or-lt}
 
 -- the n places of r before place q hold what P says
-pub record Filled {A : Type 0} (P : ℕ → A → Type 0) (d : A) (n : ℕ) (r : List A) (q : ℕ) : Type 0 where
+pub record Prefix {A : Type 0} (P : ℕ → A → Type 0) (d : A) (n : ℕ) (r : List A) (q : ℕ) : Type 0 where
   pub turns : q ≤ n
   pub size : length r ≡ n
   pub each : (i : ℕ) → i < q → P i (getD r i d)
 
-pub filled-none : {A : Type 0} (P : ℕ → A → Type 0) (d : A) (n : ℕ) (r : List A) → length r ≡ n → Filled P d n r 0
-filled-none P d n r h = record { turns = omega arith; size = h; each = λ i p. absurd (omega arith) }
+pub prefix-none : {A : Type 0} (P : ℕ → A → Type 0) (d : A) (n : ℕ) (r : List A) → length r ≡ n → Prefix P d n r 0
+prefix-none P d n r h = record { turns = omega arith; size = h; each = λ i p. absurd (omega arith) }
 
-pub filled-more : {A : Type 0} (P : ℕ → A → Type 0) (d : A) (n : ℕ) (r : List A) (q : ℕ) (x : A) → q < n → P q x → Filled P d n r q → Filled P d n (set r q x) (q + 1)
-filled-more P d n r q x h p f =
+pub prefix-more : {A : Type 0} (P : ℕ → A → Type 0) (d : A) (n : ℕ) (r : List A) (q : ℕ) (x : A) → q < n → P q x → Prefix P d n r q → Prefix P d n (set r q x) (q + 1)
+prefix-more P d n r q x h p f =
     record {
       turns = omega arith;
       size = length-set r q x ∙ f .size;

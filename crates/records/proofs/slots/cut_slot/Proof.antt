@@ -12,7 +12,7 @@ use Rattle.cells.proofs.Words.{pow8-small}
 use Rattle.records.specs.Inner.{Starts}
 use Rattle.records.specs.Slot.{Of, OfCell}
 use Rattle.records.specs.declared.slots.Slot.{Slot}
-use Rattle.records.proofs.Arrays.{Filled, filled-none, filled-more}
+use Rattle.records.proofs.Arrays.{Prefix, prefix-none, prefix-more}
 use Rattle.records.proofs.Edges.{edge, edge-next, inside}
 use Rattle.records.proofs.SlotLaws.{Cut, cut-none, cut-next, cut-part, at-cell, slot-proper, slot-low}
 use Rattle.records.proofs.slots.cut_slot.Statement.{statement}
@@ -21,7 +21,7 @@ use Rattle.records.proofs.slots.cut_slot.Tie as tie
 record Cutting (D : ℕ) (l : List ℕ) (k b : ℕ) (s : Slot) (v i : ℕ) (r : List Slot) (m : ℕ) : Type 0 where
   place : v ≡ (8 * b + m) * 8 ^ k
   cut : Cut D l b k (s .lo) (s .hi) m i
-  filled : Filled (λ j. Of D l k (8 * b + j)) (record { lo = 0; hi = 0 }) 8 r m
+  filled : Prefix (λ j. Of D l k (8 * b + j)) (record { lo = 0; hi = 0 }) 8 r m
 
 -- whatever cell the slot is of
 abbrev Inv-loop : tie.InvT-loop
@@ -38,7 +38,7 @@ loop-holds c = λ b y.
     record {
       place = omega (arith, edge b 0 k, zero-mul (8 ^ k));
       cut = cut-none (at-cell (s .pre .0) y) (s .pre .1);
-      filled = filled-none _ _ 8 _ refl;
+      filled = prefix-none _ _ 8 _ refl;
     }
 
 module _ (c : tie.In-loop Inv-loop μ-loop) where
@@ -74,7 +74,7 @@ loop-again c = λ b y.
     record {
       place = rw (add-one (u .m)) next;
       cut = rw (add-one (u .m)) (cut-next x (s .pre .1) (inv .cut) found);
-      filled = filled-more _ _ 8 (u .r) (u .m) _ child (cut-part x (s .pre .1) (inv .cut) found child) (inv .filled);
+      filled = prefix-more _ _ 8 (u .r) (u .m) _ child (cut-part x (s .pre .1) (inv .cut) found child) (inv .filled);
     }
 
 pub cut-slot-spec : {M : Type 1} → statement M

@@ -7,7 +7,7 @@ use borrow.Author.Needs.{needs}
 use Rattle.shifts.specs.LabelSums.{sumLabel, carryLabel}
 use Rattle.shifts.specs.Descent.{partAt}
 use Rattle.records.specs.declared.slots.Slot.{Slot}
-use Rattle.records.proofs.Arrays.{Filled, filled-none, filled-more}
+use Rattle.records.proofs.Arrays.{Prefix, prefix-none, prefix-more}
 use Rattle.shifts.proofs.inner.sources.pick.Statement.{statement}
 use Rattle.shifts.proofs.inner.sources.pick.Tie as tie
 
@@ -16,19 +16,19 @@ abbrev Picked : List (List Slot) → ℕ → ℕ → ℕ → Slot → Type 0
 Picked p h m q s = s ≡ partAt p (carryLabel h m q) (sumLabel h m q)
 
 abbrev Inv-loop : tie.InvT-loop
-Inv-loop h m p r₀ q₀ r q = Filled (Picked p h m) (record { lo = 0; hi = 0 }) 8 r q
+Inv-loop h m p r₀ q₀ r q = Prefix (Picked p h m) (record { lo = 0; hi = 0 }) 8 r q
 
 abbrev μ-loop : tie.MeasureT-loop
 μ-loop h m p r₀ q₀ r q = 8 - q
 
 loop-holds : tie.Need-loop-holds Inv-loop μ-loop
-loop-holds c = filled-none (Picked (c .args .t1) (c .args .h) (c .args .m)) (record { lo = 0; hi = 0 }) 8 _ refl
+loop-holds c = prefix-none (Picked (c .args .t1) (c .args .h) (c .args .m)) (record { lo = 0; hi = 0 }) 8 _ refl
 
 loop-again : tie.Need-loop-again Inv-loop μ-loop
 loop-again c =
     let a = c .before .before .before .before .before .before .args in
     let u = c .before .before .before .before .before .loop in
-    filled-more (Picked (a .t1) (a .h) (a .m)) (record { lo = 0; hi = 0 }) 8 (u .r) (u .q) (partAt (a .t1) (c .before .before .before .carry-label .result) (c .before .before .sum-label .result))
+    prefix-more (Picked (a .t1) (a .h) (a .m)) (record { lo = 0; hi = 0 }) 8 (u .r) (u .q) (partAt (a .t1) (c .before .before .before .carry-label .result) (c .before .before .sum-label .result))
     (omega (arith, c .before .before .before .before .loop-test .taken))
     (rw (c .before .before .before .carry-label .ensures .0, c .before .before .sum-label .ensures .0))
     (u .inv)

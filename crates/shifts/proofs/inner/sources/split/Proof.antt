@@ -7,7 +7,7 @@ use borrow.Author.Needs.{needs}
 use Rattle.shifts.specs.LabelSums.{Uses}
 use Rattle.records.specs.Slot.{Of, slotAt}
 use Rattle.records.specs.declared.slots.Slot.{Slot}
-use Rattle.records.proofs.Arrays.{Filled, filled-none, filled-more}
+use Rattle.records.proofs.Arrays.{Prefix, prefix-none, prefix-more}
 use Rattle.shifts.proofs.inner.sources.split.Statement.{statement}
 use Rattle.shifts.proofs.inner.sources.split.Tie as tie
 
@@ -16,7 +16,7 @@ abbrev Row : ℕ → List ℕ → ℕ → ℕ → List Slot → ℕ → List Slo
 Row D l k f t q p = Uses f q → (b : ℕ) → Of D l (suc k) b (slotAt t q) → (m : ℕ) → m < 8 → Of D l k (8 * b + m) (slotAt p m)
 
 abbrev Inv-loop : tie.InvT-loop
-Inv-loop depth l k f t r₀ q₀ r q = Filled (Row depth l k f t) [] 8 r q
+Inv-loop depth l k f t r₀ q₀ r q = Prefix (Row depth l k f t) [] 8 r q
 
 abbrev μ-loop : tie.MeasureT-loop
 μ-loop depth l k f t r₀ q₀ r q = 8 - q
@@ -30,7 +30,7 @@ split-needed-requires c κs =
 loop-again : tie.Need-loop-again Inv-loop μ-loop
 loop-again c =
     let u = c .before .before .before .loop in
-    filled-more _ [] 8 (u .r) (u .q) (c .split-needed .result) (c .before .before .loop-test .taken) (c .split-needed .ensures) (u .inv)
+    prefix-more _ [] 8 (u .r) (u .q) (c .split-needed .result) (c .before .before .loop-test .taken) (c .split-needed .ensures) (u .inv)
 
 pub split-spec : {M : Type 1} → statement M
 split-spec =
@@ -38,7 +38,7 @@ split-spec =
     (tie.spec
     Inv-loop
     μ-loop
-    (λ c. filled-none _ [] 8 _ refl)
+    (λ c. prefix-none _ [] 8 _ refl)
     (λ c. search needs)
     (λ c. search needs)
     (λ c. search needs)
