@@ -1,5 +1,5 @@
 -- The laws of the calls on stored files: what a call that begins by judging the file takes from it, and no second answer fits. Assumes nothing.
-use mathlib.Core.Path.{_≡_, refl, sym, ap, _∙_}
+use mathlib.Core.Path.{_≡_, refl, sym, ap, subst⁻¹, _∙_}
 use mathlib.Core.Bool.{Bool, true, false}
 use mathlib.Core.List.{List, [], _∷_}
 use mathlib.Core.Logic.{inl, inr}
@@ -16,7 +16,9 @@ use Rattle.records.proofs.CallLaws.{not-faulty, faulty-numbered}
 use Rattle.blocks.specs.Block.{sound, depthOf, codes}
 use Rattle.blocks.specs.File.{fileOf}
 use Rattle.blocks.specs.Calls.{Unsound, BlockCheckOf, StoredVolumeOf, unread, ReadOf, WriteOf}
+use Rattle.blocks.specs.Inner.{HoldingOf}
 use Rattle.blocks.specs.declared.Reading.{Reading}
+use Rattle.blocks.specs.declared.inner.held.Holding.{Holding}
 
 -- ---- past the tests 9 and 2 to 4
 
@@ -30,9 +32,25 @@ pub not-unsound : (t : Bool) → (t ≡ false → ⊥) → t ≡ true
 not-unsound true h = refl
 not-unsound false h = absurd (h refl)
 
+-- what the answer `given n` of `check_blocks` says
+pub blocks-checked : (b : List ℕ) (r : Answer) → BlockCheckOf b r → r .number ≡ 0 → (sound b ≡ true) × (r ≡ given (length (codes b)))
+blocks-checked b r (inl (a, t, e)) z = absurd (refuses-numbered (λ z. omega arith) a t (ap (λ (x : Answer). x .number) (sym e) ∙ z))
+blocks-checked b r (inr (unsound, e)) z = (not-unsound (sound b) (λ h. unsound _ (h, refl)), e)
+
 -- the file b is judged, and its answer is r
 abbrev pub JudgedOf : List ℕ → Answer → Type 0
 JudgedOf b = Decided alone (Unsound b ∷ Faulty (depthOf b) (codes b) 1 ∷ []) (λ r. r ≡ given (length (codes b)))
+
+-- a refusal of `check_blocks` is one of the judgement
+pub blocks-refused : (b : List ℕ) (r : Answer) → BlockCheckOf b r → (r .number ≡ 0 → ⊥) → JudgedOf b r
+blocks-refused b r (inl t) some = inl t
+blocks-refused b r (inr (_, e)) some = absurd (some (ap (λ (x : Answer). x .number) e))
+
+-- a refusal holds nothing
+pub holds-nothing : (b : List ℕ) (r : Holding) (a : Answer) → r .answer ≡ a → (a .number ≡ 0 → ⊥) → JudgedOf b a → HoldingOf b r
+holds-nothing b r a e some d =
+    let none : r .answer .number ≡ 0 → ⊥ = λ z. some (ap (λ (x : Answer). x .number) (sym e) ∙ z) in
+    record { tells = subst⁻¹ (JudgedOf b) e d; is-depth = λ z. absurd (none z); is-voxels = λ z. absurd (none z) }
 
 module _ (b : List ℕ) (r : Answer) (d : JudgedOf b r) where
   numbered : Numbered (Unsound b ∷ Faulty (depthOf b) (codes b) 1 ∷ [])

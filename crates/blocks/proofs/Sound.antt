@@ -98,9 +98,9 @@ is-whole b h e = rw (le-leb 1 (length b / blockBytes) (omega arith), eq-eqb (len
 abbrev pub soundAt : List ℕ → ℕ → Bool
 soundAt b i = soundBlock (word b i) i (blocks b) (depthOf b)
 
-pub not-whole : (b : List ℕ) → whole b ≡ false → (false ≡ sound b) × (length b / blockBytes ≡ wrongAt b)
+pub not-whole : (b : List ℕ) → whole b ≡ false → (sound b ≡ false) × (wrongAt b ≡ length b / blockBytes)
 unfolding sound wrongAt blocks
-not-whole b e = (rw e, sym (first-none (λ i. whole b && not (soundAt b i)) (blocks b) (λ k h. rw e)))
+not-whole b e = (rw e, first-none (λ i. whole b && not (soundAt b i)) (blocks b) (λ k h. rw e))
 
 -- a whole file: its blocks, and the first wrong one
 pub whole-blocks : (b : List ℕ) → whole b ≡ true → (1 ≤ blocks b) × (blockBytes * blocks b ≡ length b)
@@ -110,6 +110,10 @@ whole-blocks b w =
     (leb-true 1 (length b / blockBytes) some, omega (arith, eqb-true (length b % blockBytes) 0 rest))
 
 module _ (b : List ℕ) (w : whole b ≡ true) where
+  pub whole-sound : sound b ≡ eqb (wrongAt b) (blocks b)
+  unfolding sound
+  whole-sound = rw w
+
   pub right-before : (i : ℕ) → i < wrongAt b → soundAt b i ≡ true
   unfolding wrongAt
   right-before i h = not-false (soundAt b i) (rw w at (first-miss (λ j. whole b && not (soundAt b j)) (blocks b) i h))

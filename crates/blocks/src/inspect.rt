@@ -1,7 +1,8 @@
 // What is told of a stored file without a copy of its list: `check_blocks` and `stored_volume`.
+use crate::BLOCK_BYTES;
 use crate::inner::held::holding_of;
+use crate::inner::soundness::first_unsound;
 use crate::inner::soundness::leaves_of;
-use crate::inner::soundness::soundness_of;
 use cells::Answer;
 use cells::inner::refusal;
 use cells::inner::success;
@@ -11,10 +12,16 @@ ghost use Rattle.blocks.specs.Calls.{BlockCheckOf, StoredVolumeOf};
 pub fn check_blocks(bytes: &[u8]) -> Answer
     ensures { λ r. ⌜ BlockCheckOf (now (bytes .entry)) r ⌝ }
 {
-    let seen = soundness_of(bytes);
-    let n = seen.place;
-    if !seen.sound {
+    let n = bytes.len() / BLOCK_BYTES;
+    if n == 0 {
+        return refusal(9, 0, 0);
+    }
+    if bytes.len() % BLOCK_BYTES != 0 {
         return refusal(9, n as u64, 0);
+    }
+    let i = first_unsound(bytes, n);
+    if i != n {
+        return refusal(9, i as u64, 0);
     }
     success(leaves_of(bytes, n) as u64)
 }

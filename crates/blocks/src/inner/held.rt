@@ -1,11 +1,9 @@
 // INNER: the list that a file holds, judged where it stands among the bytes, and what is told of it.
-use crate::inner::soundness::leaves_of;
-use crate::inner::soundness::soundness_of;
+use crate::check_blocks;
 use crate::inner::words::code_at;
 use crate::inner::words::word_at;
 use cells::Answer;
 use cells::inner::refusal;
-use cells::inner::success;
 use records::inner::Verdict;
 use records::inner::begin;
 use records::inner::step;
@@ -63,21 +61,21 @@ fn nothing_held(answer: Answer) -> Holding
 pub fn holding_of(bytes: &[u8]) -> Holding
     ensures { λ r. ⌜ HoldingOf (now (bytes .entry)) r ⌝ }
 {
-    let seen = soundness_of(bytes);
-    let n = seen.place;
-    if !seen.sound {
-        return nothing_held(refusal(9, n as u64, 0));
-    }
-    let leaves = leaves_of(bytes, n);
-    let depth = word_at(bytes, 0, 2);
-    let found = judge_stored(depth, bytes, leaves);
-    let number = found.number;
-    let place = found.place;
+    let answer = check_blocks(bytes);
+    let number = answer.number;
     if number != 0 {
-        return nothing_held(refusal(number, place, 1));
+        return nothing_held(answer);
+    }
+    let depth = word_at(bytes, 0, 2);
+    let n = answer.place as usize;
+    let found = judge_stored(depth, bytes, n);
+    let fault = found.number;
+    let place = found.place;
+    if fault != 0 {
+        return nothing_held(refusal(fault, place, 1));
     }
     Holding {
-        answer: success(place),
+        answer,
         depth,
         voxels: found.sum,
     }

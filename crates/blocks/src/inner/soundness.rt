@@ -1,5 +1,4 @@
 // INNER: whether the blocks of a file are sound, word by word.
-use crate::BLOCK_BYTES;
 use crate::BLOCK_CODES;
 use crate::CHECK_A;
 use crate::CHECK_B;
@@ -80,20 +79,22 @@ pub fn is_sound(bytes: &[u8], i: usize, n: usize, depth: u32) -> bool
     requires { ⌜ (blockBytes * n ≤ length (now bytes)) × (i < n) ⌝ }
     ensures { λ r. ⌜ r ≡ soundBlock (word (now (bytes .entry)) i) i n depth ⌝ }
 {
-    if word_at(bytes, i, 0) as usize != i {
-        return false;
-    }
-    if word_at(bytes, i, 1) as usize != n {
-        return false;
-    }
+    let index = word_at(bytes, i, 0) as usize;
+    let number = word_at(bytes, i, 1) as usize;
     let d = word_at(bytes, i, 2);
+    let k = word_at(bytes, i, 3) as usize;
+    if index != i {
+        return false;
+    }
+    if number != n {
+        return false;
+    }
     if DEEPEST < d {
         return false;
     }
     if d != depth {
         return false;
     }
-    let k = word_at(bytes, i, 3) as usize;
     if !right_count(n, i, k) {
         return false;
     }
@@ -119,38 +120,9 @@ pub fn first_unsound(bytes: &[u8], n: usize) -> usize
     i
 }
 
-// Whether a file is sound, and the place that number 9 names: of a sound file, the number of its blocks.
-pub struct Soundness {
-    pub sound: bool,
-    pub place: usize,
-}
-
-pub fn soundness_of(bytes: &[u8]) -> Soundness
-    ensures { λ r. ⌜ (r .sound ≡ sound (now (bytes .entry))) × (r .place ≡ wrongAt (now (bytes .entry))) ⌝ }
-{
-    let n = bytes.len() / BLOCK_BYTES;
-    if n == 0 {
-        return Soundness {
-            sound: false,
-            place: n,
-        };
-    }
-    if bytes.len() % BLOCK_BYTES != 0 {
-        return Soundness {
-            sound: false,
-            place: n,
-        };
-    }
-    let i = first_unsound(bytes, n);
-    Soundness {
-        sound: i == n,
-        place: i,
-    }
-}
-
 // How many codes the n blocks of a sound file hold.
 pub fn leaves_of(bytes: &[u8], n: usize) -> usize
-    requires { ⌜ (sound (now bytes) ≡ true) × (n ≡ wrongAt (now bytes)) ⌝ }
+    requires { ⌜ (sound (now bytes) ≡ true) × (n ≡ blocks (now bytes)) ⌝ }
     ensures { λ r. ⌜ r ≡ length (codes (now (bytes .entry))) ⌝ }
 {
     BLOCK_CODES * (n - 1) + word_at(bytes, n - 1, 3) as usize

@@ -8,16 +8,23 @@ ghost use lib.ListN.{length};
 ghost use Rattle.blocks.specs.Block.{blockBytes, blockCodes, word};
 ghost use Rattle.blocks.specs.Inner.{stored};
 
+// A byte as a number.
+fn wide(x: u8) -> u32
+    ensures { λ r. ⌜ (r ≡ x) × (r < 256) ⌝ }
+{
+    x as u32
+}
+
 // Word w of block i.
 pub fn word_at(bytes: &[u8], i: usize, w: usize) -> u32
     requires { ⌜ (blockBytes * i + blockBytes ≤ length (now bytes)) × (w < 128) ⌝ }
     ensures { λ r. ⌜ r ≡ word (now (bytes .entry)) i w ⌝ }
 {
     let p = BLOCK_BYTES * i + 4 * w;
-    let b0 = bytes[p] as u32;
-    let b1 = bytes[p + 1] as u32;
-    let b2 = bytes[p + 2] as u32;
-    let b3 = bytes[p + 3] as u32;
+    let b0 = wide(bytes[p]);
+    let b1 = wide(bytes[p + 1]);
+    let b2 = wide(bytes[p + 2]);
+    let b3 = wide(bytes[p + 3]);
     b0 + 256 * (b1 + 256 * (b2 + 256 * b3))
 }
 

@@ -4,24 +4,21 @@ use Prim.Native.Nat.{ℕ, _+_, _-_, _*_, _≤_}
 use native.Mathlib.Omega.{arith}
 use borrow.Author.Needs.{needs}
 use lib.ListN.{length}
-use Rattle.blocks.specs.Block.{blockBytes, blockCodes, word, blocks}
-use Rattle.blocks.proofs.Sound.{codes-length, some-block, all-blocks, wrong-is}
+use Rattle.blocks.specs.Block.{blockBytes, blockCodes, word}
+use Rattle.blocks.proofs.Sound.{codes-length, some-block, all-blocks}
 use Rattle.blocks.proofs.inner.soundness.leaves_of.Statement.{statement}
 use Rattle.blocks.proofs.inner.soundness.leaves_of.Tie as tie
 
 module _ (s : tie.Start) where
-  is-blocks : s .args .n ≡ blocks (s .args .bytes .now)
-  is-blocks = s .pre .1 ∙ wrong-is _ (s .pre .0)
-
   -- there is a block, and the blocks lie in the file
   within : (1 ≤ s .args .n) × (blockBytes * s .args .n ≡ length (s .args .bytes .now))
-  within = (omega (arith, is-blocks, some-block _ (s .pre .0)), omega (arith, is-blocks, all-blocks _ (s .pre .0)))
+  within = (omega (arith, s .pre .1, some-block _ (s .pre .0)), omega (arith, s .pre .1, all-blocks _ (s .pre .0)))
 
 returns : tie.Need-returns
 returns c =
     let s = c .before .before in
     let b = s .args .bytes .now in
-    ap (λ (x : ℕ). blockCodes * (s .args .n - 1) + x) (c .word-at .ensures) ∙ ap (λ (n : ℕ). blockCodes * (n - 1) + word b (n - 1) 3) (is-blocks s) ∙ sym (codes-length b)
+    ap (λ (x : ℕ). blockCodes * (s .args .n - 1) + x) (c .word-at .ensures) ∙ ap (λ (n : ℕ). blockCodes * (n - 1) + word b (n - 1) 3) (s .pre .1) ∙ sym (codes-length b)
 
 pub leaves-of-spec : {M : Type 1} → statement M
 leaves-of-spec =
