@@ -26,18 +26,6 @@ below t = and 1 put-decimal-kinds.ps (falls 1 put-decimal-kinds.ps _<_ μ t) put
 abbrev calls : ℕ → lts.Claims
 calls t = (put-reads.Asked, put-reads.Learnt, below t, put-decimal.Post)
 
-cast-put : (t : ℕ) → lts.Need-cast-put (calls t) (here t) put-decimal.Post
-cast-put t c = omega arith
-
-add-put : (t : ℕ) → lts.Need-add-put (calls t) (here t) put-decimal.Post
-add-put t c = omega arith
-
-put-requires : (t : ℕ) → lts.Need-put-requires (calls t) (here t) put-decimal.Post
-put-requires t c κs = let s = c .before .before .before in omega (arith, s .pre .1)
-
-same-length : (t : ℕ) → lts.Need-same-length (calls t) (here t) put-decimal.Post
-same-length t c = search needs
-
 returns : (t : ℕ) → lts.Need-returns (calls t) (here t) put-decimal.Post
 returns t c =
     λ f h.
@@ -48,12 +36,6 @@ returns t c =
 put-decimal-requires : (t : ℕ) → lts.Need-put-decimal-requires (calls t) (here t) put-decimal.Post
 put-decimal-requires t c κs = let s = c .before .before .before in (omega (arith, s .pre .0, c .before .if1 .left), s .pre .1)
 
-cast-put-2 : (t : ℕ) → lts.Need-cast-put-2 (calls t) (here t) put-decimal.Post
-cast-put-2 t c = omega arith
-
-add-put-2 : (t : ℕ) → lts.Need-add-put-2 (calls t) (here t) put-decimal.Post
-add-put-2 t c = omega arith
-
 -- the number without its last digit has 19 digits at most
 put-requires-2 : (t : ℕ) → lts.Need-put-requires-2 (calls t) (here t) put-decimal.Post
 put-requires-2 t c κs =
@@ -62,9 +44,6 @@ put-requires-2 t c κs =
     let n = s .args .n in
     let p = d .put-decimal .ensures 18 (omega (arith, s .fits .n)) in
     omega (arith, p .place, digits-length 10 18 (n / 10), s .pre .1)
-
-same-length-2 : (t : ℕ) → lts.Need-same-length-2 (calls t) (here t) put-decimal.Post
-same-length-2 t c = search needs
 
 returns-2 : (t : ℕ) → lts.Need-returns-2 (calls t) (here t) put-decimal.Post
 returns-2 t c =
@@ -82,14 +61,14 @@ pub +put-decimal-spec : {M : Type 1} → statement M
     (calls t)
     (here t)
     put-decimal.Post
-    (cast-put t)
-    (add-put t)
-    (put-requires t)
-    (same-length t)
+    (λ c. omega arith)
+    (λ c. omega arith)
+    (λ c κs. let s = c .before .before .before in omega (arith, s .pre .1))
+    (λ c. search needs)
     (returns t)
     (put-decimal-requires t)
-    (cast-put-2 t)
-    (add-put-2 t)
+    (λ c. omega arith)
+    (λ c. omega arith)
     (put-requires-2 t)
-    (same-length-2 t)
+    (λ c. search needs)
     (returns-2 t)

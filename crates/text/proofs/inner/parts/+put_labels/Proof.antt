@@ -44,12 +44,6 @@ put-labels-requires t c κs =
     let (j, m, p, more) = shorter (s .args .code) (s .args .at) (c .before .if1 .left) k i l room in
     (omega (arith, s .pre .0, c .before .if1 .left), (j, m, p, omega arith))
 
-cast-put : (t : ℕ) → lts.Need-cast-put (calls t) (here t) put-labels.Post
-cast-put t c = omega arith
-
-add-put : (t : ℕ) → lts.Need-add-put (calls t) (here t) put-labels.Post
-add-put t c = omega arith
-
 put-requires : (t : ℕ) → lts.Need-put-requires (calls t) (here t) put-labels.Post
 put-requires t c κs =
     let d = c .before .before .before in
@@ -58,9 +52,6 @@ put-requires t c κs =
     let (k, i, l, room) = s .pre .1 in
     let (j, m, p, more) = shorter (s .args .code) (s .args .at) (e .if1 .left) k i l room in
     omega (arith, d .put-labels .ensures j m p .place, labels-length j m)
-
-same-length : (t : ℕ) → lts.Need-same-length (calls t) (here t) put-labels.Post
-same-length t c = search needs
 
 returns-2 : (t : ℕ) → lts.Need-returns-2 (calls t) (here t) put-labels.Post
 returns-2 t c =
@@ -80,8 +71,8 @@ pub +put-labels-spec : {M : Type 1} → statement M
     put-labels.Post
     (returns t)
     (put-labels-requires t)
-    (cast-put t)
-    (add-put t)
+    (λ c. omega arith)
+    (λ c. omega arith)
     (put-requires t)
-    (same-length t)
+    (λ c. search needs)
     (returns-2 t)
