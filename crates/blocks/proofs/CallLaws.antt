@@ -13,6 +13,7 @@ use Rattle.records.specs.Record.{Good}
 use Rattle.records.specs.Fault.{Faulty}
 use Rattle.records.specs.Writing.{TooShort}
 use Rattle.records.proofs.CallLaws.{not-faulty, faulty-numbered}
+use Rattle.records.proofs.Writing.{one-list-writes}
 use Rattle.blocks.specs.Block.{sound, depthOf, codes}
 use Rattle.blocks.specs.File.{fileOf}
 use Rattle.blocks.specs.Calls.{Unsound, BlockCheckOf, StoredVolumeOf, unread, ReadOf, WriteOf}
@@ -97,4 +98,4 @@ module _ (b : List ℕ) where
 
 -- the answer, and the bytes afterwards
 pub one-write : (D : ℕ) (l o : List ℕ) → One (λ (t : Answer × List ℕ). WriteOf D l o (t .0) (t .1))
-one-write D l o = one-decided (keeping o) (TooDeep D ∷ Faulty D l 1 ∷ TooShort (length (fileOf D l)) o ∷ []) _ (one-refuses, (one-refuses, (one-refuses, tt))) one-equal
+one-write D l o = one-list-writes (fileOf D l) o D l

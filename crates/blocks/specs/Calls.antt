@@ -9,7 +9,7 @@ use Rattle.cells.specs.declared.Answer.{Answer}
 use Rattle.records.specs.Record.{black}
 use Rattle.records.specs.Count.{count}
 use Rattle.records.specs.Fault.{Faulty}
-use Rattle.records.specs.Writing.{stands, TooShort}
+use Rattle.records.specs.Writing.{stands, TooShort, ListWritesOf}
 use Rattle.blocks.specs.declared.Reading.{Reading}
 use Rattle.blocks.specs.Block.{sound, wrongAt, depthOf, codes}
 use Rattle.blocks.specs.File.{fileOf}
@@ -38,5 +38,4 @@ ReadOf b o r o' =
 
 -- THE CALL write, of the list l to the bytes o: the answer r and the bytes o' afterwards
 abbrev pub WriteOf : ℕ → List ℕ → List ℕ → Answer → List ℕ → Type 0
-WriteOf D l o r o' =
-    Decided (keeping o) (TooDeep D ∷ Faulty D l 1 ∷ TooShort (length (fileOf D l)) o ∷ []) (λ t. t ≡ (given (length (fileOf D l)), stands (fileOf D l) o)) (r, o')
+WriteOf D l o r o' = ListWritesOf D l (fileOf D l) o r o'

@@ -21,13 +21,13 @@ pub mod Carrying
 -- the leaves that meet a cell stand together; what the search finds
 pub mod Part
 pub mod Search
--- what is written to the front of a buffer
-pub mod Writing
 -- slots: a leaf against the edges of cells; the leaves that meet a cell and its children; arrays that a loop fills
 pub mod Edges
 pub mod SlotLaws
 pub mod Arrays
 -- what follows of the calls, and instances
 pub mod CallLaws
+-- what is written to the front of a buffer
+pub mod Writing
 pub mod MetLaws
 pub mod Instances

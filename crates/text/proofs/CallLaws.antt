@@ -4,15 +4,15 @@ use mathlib.Core.List.{List, [], _∷_, _++_}
 use Prim.Native.Nat.{ℕ, _^_, _≤_, _<_}
 use native.Mathlib.Omega.{arith}
 use lib.ListN.{length, take, drop}
-use Rattle.cells.specs.Answer.{answer, given, keeping, TooDeep, deepest}
+use Rattle.cells.specs.Answer.{answer, given, TooDeep, deepest}
 use Rattle.cells.specs.declared.Answer.{Answer}
-use Rattle.cells.proofs.Decisions.{One, one-equal, one-refuses, one-refuses-first, one-decided, Opening}
+use Rattle.cells.proofs.Decisions.{One, Opening}
 use Rattle.records.specs.Record.{black, Good}
 use Rattle.records.specs.Count.{count}
 use Rattle.records.specs.Fault.{Faulty}
-use Rattle.records.specs.Writing.{stands, TooShort}
+use Rattle.records.specs.Writing.{stands, WritesOf}
 use Rattle.records.proofs.CallLaws.{checks}
-use Rattle.records.proofs.Writing.{sets-counted, sets-stands, Standing, too-short, standing}
+use Rattle.records.proofs.Writing.{sets-counted, sets-stands, one-writes, one-list-writes, too-short, standing}
 use Rattle.text.specs.Text.{textOf, TextOf, refusedText, RefusedOf}
 use Rattle.text.specs.Inner.{Put}
 
@@ -28,10 +28,10 @@ module _ (t o e : List ℕ) (need : ℕ) (p : Put (take 0 o) 0 t e need) where
   kept : o₁ ≡ o
   kept = sets-counted o e t (p .bytes)
 
-  pub text-short : length o₁ < need → (r : Answer) → r ≡ answer 8 need 0 → Standing t o (r, o₁)
+  pub text-short : length o₁ < need → (r : Answer) → r ≡ answer 8 need 0 → WritesOf t o r o₁
   text-short h r a = too-short t o need counted r _ (omega (arith, ap length kept)) a kept
 
-  pub text-stands : need ≤ length o₁ → (e₂ : List ℕ) (n : ℕ) → Put (take need o₁) 0 t e₂ n → (r : Answer) → r ≡ given need → Standing t o (r, e₂ ++ drop need o₁)
+  pub text-stands : need ≤ length o₁ → (e₂ : List ℕ) (n : ℕ) → Put (take need o₁) 0 t e₂ n → (r : Answer) → r ≡ given need → WritesOf t o r (e₂ ++ drop need o₁)
   text-stands h e₂ n q r a = standing t o need counted r _ (omega (arith, ap length kept)) a (sets-stands o₁ e₂ t need counted h (q .bytes) ∙ ap (stands t) kept)
 
 -- ---- past `volume`
@@ -55,7 +55,7 @@ measures D l = record {
 -- ---- no second answer: the answer, and the bytes afterwards
 
 pub one-text : (D : ℕ) (l o : List ℕ) → One (λ (t : Answer × List ℕ). TextOf D l o (t .0) (t .1))
-one-text D l o = one-decided (keeping o) (TooDeep deepest D ∷ Faulty D l 1 ∷ TooShort (length (textOf D l)) o ∷ []) _ (one-refuses, (one-refuses-first, (one-refuses, tt))) one-equal
+one-text D l o = one-list-writes (textOf D l) o D l
 
 pub one-refused : (n p : ℕ) (o : List ℕ) → One (λ (t : Answer × List ℕ). RefusedOf n p o (t .0) (t .1))
-one-refused n p o = one-decided (keeping o) (TooShort (length (refusedText n p)) o ∷ []) _ (one-refuses, tt) one-equal
+one-refused n p o = one-writes (refusedText n p) o

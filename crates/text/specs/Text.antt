@@ -11,7 +11,7 @@ use Rattle.cells.specs.declared.Answer.{Answer}
 use Rattle.records.specs.Record.{black}
 use Rattle.records.specs.Count.{count}
 use Rattle.records.specs.Fault.{Faulty}
-use Rattle.records.specs.Writing.{stands, TooShort}
+use Rattle.records.specs.Writing.{WritesOf, ListWritesOf}
 
 -- the digits of n in base b, at most f + 1 of them, no zeros in front
 unfoldable pub digits : ℕ → ℕ → ℕ → List ℕ
@@ -56,9 +56,7 @@ textOf D l = listing D l (count (black D l) (8 ^ D))
 
 -- THE CALL list_text, of the list l to the bytes o: the answer r and the bytes o' afterwards
 abbrev pub TextOf : ℕ → List ℕ → List ℕ → Answer → List ℕ → Type 0
-TextOf D l o r o' =
-    Decided (keeping o) (TooDeep deepest D ∷ Faulty D l 1 ∷ TooShort (length (textOf D l)) o ∷ [])
-    (λ t. t ≡ (given (length (textOf D l)), stands (textOf D l) o)) (r, o')
+TextOf D l o r o' = ListWritesOf D l (textOf D l) o r o'
 
 -- "refused "
 abbrev pub refusedWord : List ℕ
@@ -70,6 +68,4 @@ refusedText n p = refusedWord ++ (decimal n ++ (32 ∷ (decimal p ++ (10 ∷ [])
 
 -- THE CALL refused_text, of number n and place p to the bytes o: the answer r and the bytes o' afterwards
 abbrev pub RefusedOf : ℕ → ℕ → List ℕ → Answer → List ℕ → Type 0
-RefusedOf n p o r o' =
-    Decided (keeping o) (TooShort (length (refusedText n p)) o ∷ [])
-    (λ t. t ≡ (given (length (refusedText n p)), stands (refusedText n p) o)) (r, o')
+RefusedOf n p o r o' = WritesOf (refusedText n p) o r o'

@@ -7,13 +7,13 @@ use lib.ListN.{length}
 use lib.Seq.{length-take-le}
 use Rattle.cells.specs.Answer.{given, keeping}
 use Rattle.cells.specs.declared.Answer.{Answer}
-use Rattle.cells.proofs.Decisions.{opening-refuses, opening-passes, opening-known}
-use Rattle.records.specs.Writing.{stands, TooShort}
-use Rattle.records.proofs.Writing.{Standing}
+use Rattle.records.specs.Writing.{WritesOf}
+use Rattle.records.proofs.Writing.{list-refused, list-written}
 use Rattle.text.specs.Text.{listing, textOf, TextOf}
 use Rattle.text.specs.Inner.{Put}
 use Rattle.text.proofs.Puts.{put-as}
 use Rattle.text.proofs.CallLaws.{text-short, text-stands, Measured, measures}
+use Rattle.cells.proofs.Decisions.{opening-known}
 use Rattle.text.proofs.list_text.Statement.{statement}
 use Rattle.text.proofs.list_text.Tie as tie
 
@@ -33,15 +33,6 @@ module _ (c : tie.After-volume) where
   abbrev t : List ℕ
   t = textOf (s .args .depth) l
 
-  -- it stands at the front
-  abbrev Wrote : Answer × List ℕ → Type 0
-  Wrote x = x ≡ (given (length t), stands t o)
-
-returns : tie.Need-returns
-returns c =
-    let v = c .before in
-    opening-refuses (measures (s v .args .depth) (l v)) (v .volume .result) (v .volume .ensures) (keeping (o v)) (TooShort (length (t v)) (o v) ∷ []) (Wrote v) (c .if1 .taken)
-
 -- ---- a good list
 
 module _ (c : tie.Else1) where
@@ -58,8 +49,8 @@ module _ (c : tie.Else1) where
   listed : {b after : List ℕ} {r : ℕ} → Put b 0 (listing (s v .args .depth) (l v) (v .volume .result .place)) after r → Put b 0 (t v) after r
   listed p = put-as (ap (listing (s v .args .depth) (l v)) (good .is-volume)) p
 
-  told : {r : Answer} {after : List ℕ} → Standing (t v) (o v) (r, after) → TextOf (s v .args .depth) (l v) (o v) r after
-  told d = opening-passes (measures (s v .args .depth) (l v)) (v .volume .result) (v .volume .ensures) (keeping (o v)) (TooShort (length (t v)) (o v) ∷ []) (Wrote v) _ none d
+  told : {r : Answer} {after : List ℕ} → WritesOf (t v) (o v) r after → TextOf (s v .args .depth) (l v) (o v) r after
+  told w = list-written (t v) (o v) (s v .args .depth) (l v) _ (v .volume .result) (v .volume .ensures) none _ _ w
 
 returns-2 : tie.Need-returns-2
 returns-2 c =
@@ -88,7 +79,7 @@ list-text-spec =
     tie.close
     (tie.spec
     (λ c κs. search needs)
-    returns
+    (λ c. let v = c .before in list-refused (t v) (o v) (s v .args .depth) (l v) _ (v .volume .result) (v .volume .ensures) (c .if1 .taken))
     (λ c. search needs)
     (λ c. search needs)
     (λ c κs. let k = good (c .before) in (k .shallow, k .good .ordered, k .few))

@@ -8,9 +8,9 @@ use lib.ListN.{length}
 use Rattle.cells.specs.Answer.{given, keeping}
 use Rattle.cells.specs.declared.Answer.{Answer}
 use Rattle.cells.proofs.Words.{pow8-small}
-use Rattle.records.specs.Writing.{stands, TooShort}
-use Rattle.records.proofs.CallLaws.{Checked, check-first, check-next, checked}
-use Rattle.records.proofs.Writing.{Standing, too-short, standing}
+use Rattle.records.specs.Writing.{WritesOf}
+use Rattle.records.proofs.CallLaws.{Checked, checked}
+use Rattle.records.proofs.Writing.{too-short, standing, list-refused, list-written}
 use Rattle.blocks.specs.Block.{blockBytes}
 use Rattle.blocks.specs.File.{blocksOf, fileOf}
 use Rattle.blocks.specs.Calls.{WriteOf}
@@ -34,14 +34,6 @@ module _ (c : tie.After-check) where
   abbrev f : List ℕ
   f = fileOf (s .args .depth) l
 
-  abbrev Done : Answer × List ℕ → Type 0
-  Done t = t ≡ (given (length f), stands f o)
-
-returns : tie.Need-returns
-returns c =
-    let q = c .before in
-    check-first (s q .args .depth) (l q) (q .check .result) (q .check .ensures) (keeping (o q)) (TooShort (length (f q)) (o q) ∷ []) (Done q) (c .if1 .taken)
-
 -- ---- how many blocks a good list takes
 
 module _ (c : tie.After-blocks-of) where
@@ -63,8 +55,8 @@ module _ (c : tie.After-blocks-of) where
   need : blockBytes * c .blocks-of .result ≡ length (f t)
   need = ap (λ (n : ℕ). blockBytes * n) is-blocks ∙ sym (file-length (s t .args .depth) (l t))
 
-  told : {r : Answer} {after : List ℕ} → Standing (f t) (o t) (r, after) → WriteOf (s t .args .depth) (l t) (o t) r after
-  told d = check-next (s t .args .depth) (l t) (t .check .result) (t .check .ensures) (keeping (o t)) (TooShort (length (f t)) (o t) ∷ []) (Done t) _ none d
+  told : {r : Answer} {after : List ℕ} → WritesOf (f t) (o t) r after → WriteOf (s t .args .depth) (l t) (o t) r after
+  told w = list-written (f t) (o t) (s t .args .depth) (l t) _ (t .check .result) (t .check .ensures) none _ _ w
 
 returns-2 : tie.Need-returns-2
 returns-2 c = let q = c .before .before in told q (too-short (f (t q)) (o (t q)) _ (need q) _ _ (c .before .if2 .taken) (c .refusal .ensures) refl)
@@ -80,7 +72,7 @@ write-spec =
     tie.close
     (tie.spec
     (λ c κs. search needs)
-    returns
+    (λ c. let q = c .before in list-refused (f q) (o q) (s q .args .depth) (l q) _ (q .check .result) (q .check .ensures) (c .if1 .taken))
     (λ c κs. search needs)
     (λ c. omega (arith, few c))
     (λ c κs. search needs)
