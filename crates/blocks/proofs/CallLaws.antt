@@ -6,7 +6,7 @@ use mathlib.Core.Logic.{inl, inr}
 use Prim.Native.Nat.{ℕ}
 use native.Mathlib.Omega.{arith}
 use lib.ListN.{length}
-use Rattle.cells.specs.Answer.{given, Test, Decided, alone, keeping, TooDeep}
+use Rattle.cells.specs.Answer.{given, Test, Decided, alone}
 use Rattle.cells.specs.declared.Answer.{Answer}
 use Rattle.cells.proofs.Decisions.{One, one-equal, one-refuses, one-decided, Numbered, refuses-numbered, decided-first, decided-next, decided-holds}
 use Rattle.records.specs.Record.{Good}

@@ -11,9 +11,10 @@ use lib.Seq.{take-append-seam}
 use Rattle.cells.specs.Answer.{given, deepest}
 use Rattle.cells.specs.declared.Answer.{Answer}
 use Rattle.cells.proofs.Bools.{clash}
-use Rattle.cells.proofs.Decisions.{passes, deep-enough}
+use Rattle.cells.proofs.Decisions.{passes}
 use Rattle.records.specs.Record.{Good}
 use Rattle.records.specs.Writing.{stands}
+use Rattle.records.proofs.Writing.{list-fitting}
 use Rattle.records.proofs.CallLaws.{not-faulty, faulty-numbered, no-fault}
 use Rattle.blocks.specs.Block.{blockBytes, sound, depthOf, codes}
 use Rattle.blocks.specs.File.{blocksOf, fileOf}
@@ -71,15 +72,12 @@ read-success b o r after w z = go w
 
 -- ---- the answers that fit
 
-writes-file : (D : ℕ) (l o : List ℕ) → D ≤ deepest → Good D l → length (fileOf D l) ≤ length o → WriteOf D l o (given (length (fileOf D l))) (stands (fileOf D l) o)
-writes-file D l o h g room = inr (passes (deep-enough h), inr (passes (no-fault D l g), inr (passes (λ x. omega arith), refl)))
-
--- its length in numbers
+-- the file of a good list; its length in numbers
 pub writes-good : (D : ℕ) (l o : List ℕ) → D ≤ deepest → Good D l → blockBytes * blocksOf (length l) ≤ length o
     → WriteOf D l o (given (blockBytes * blocksOf (length l))) (fileOf D l ++ drop (blockBytes * blocksOf (length l)) o)
 writes-good D l o h g room =
     let n = file-length D l in
-    subst (λ (n : ℕ). WriteOf D l o (given n) (fileOf D l ++ drop n o)) n (writes-file D l o h g (omega arith))
+    subst (λ (n : ℕ). WriteOf D l o (given n) (fileOf D l ++ drop n o)) n (list-fitting (fileOf D l) o D l h g (omega arith))
 
 pub reads-file : (D : ℕ) (l o : List ℕ) → D ≤ deepest → Good D l → length l ≤ length o → ReadOf (fileOf D l) o (record { answer = given (length l); depth = D }) (stands l o)
 reads-file D l o h g room =
@@ -89,7 +87,7 @@ reads-file D l o h g room =
 pub writes-codes : (b o : List ℕ) → sound b ≡ true → ((k : ℕ) → getD b k 0 < 256) → Good (depthOf b) (codes b) → length b ≤ length o → WriteOf (depthOf b) (codes b) o (given (length b)) (stands b o)
 writes-codes b o s small g room =
     subst (λ (f : List ℕ). WriteOf (depthOf b) (codes b) o (given (length f)) (stands f o)) (same-file b s small)
-    (writes-file (depthOf b) (codes b) o (shallow-file b s) g (omega (arith, ap length (same-file b s small))))
+    (list-fitting (fileOf (depthOf b) (codes b)) o (depthOf b) (codes b) (shallow-file b s) g (omega (arith, ap length (same-file b s small))))
 
 -- ---- there and back
 

@@ -4,7 +4,7 @@ use mathlib.Core.Bool.{false}
 use mathlib.Core.List.{List, [], _∷_}
 use Prim.Native.Nat.{ℕ, _^_}
 use lib.ListN.{length}
-use Rattle.cells.specs.Answer.{answer, given, Test, Decided, alone, keeping, refuses, TooDeep}
+use Rattle.cells.specs.Answer.{answer, given, Test, Decided, alone, refuses}
 use Rattle.cells.specs.declared.Answer.{Answer}
 use Rattle.records.specs.Record.{black}
 use Rattle.records.specs.Count.{count}

@@ -13,7 +13,7 @@ use Rattle.records.specs.Record.{black, Good}
 use Rattle.records.specs.Count.{count}
 use Rattle.records.specs.Fault.{Faulty}
 use Rattle.records.specs.Writing.{stands}
-use Rattle.records.proofs.CallLaws.{no-fault}
+use Rattle.records.proofs.Writing.{writes-fitting, list-fitting}
 use Rattle.blocks.specs.Block.{sound, depthOf, codes}
 use Rattle.blocks.specs.Calls.{Unsound, ReadOf}
 use Rattle.blocks.specs.declared.Reading.{Reading}
@@ -21,6 +21,7 @@ use Rattle.blocks.proofs.Sound.{all-blocks, codes-most}
 use Rattle.blocks.proofs.CallLaws.{not-unsound}
 use Rattle.text.specs.Text.{pathLines, textOf, TextOf, refusedText, RefusedOf}
 use Rattle.text.specs.Inner.{headLine}
+use Rattle.text.proofs.CallLaws.{one-text, one-refused}
 use Rattle.text.proofs.Digits.{paths-length, listing-lines, head-length, refused-length}
 use Rattle.listing.specs.Listing.{longest, mostCodes, refusedLine, Printed, Page}
 
@@ -44,20 +45,16 @@ refused-printed b o r o' (inr (p, inr (q, inl (a, (short, _), e)))) some h room 
     absurd (omega (arith, few-codes b (not-unsound (sound b) (λ x. p _ (x, refl))) h))
 refused-printed b o r o' (inr (p, inr (q, inr (_, e)))) some h room = absurd (some (ap (λ (x : Reading × List ℕ). x .0 .answer .number) e))
 
--- a text stands at the front
-pub record Front (t o : List ℕ) (r : Answer) (after : List ℕ) : Type 0 where
-  pub is-answer : r ≡ given (length t)
-  pub is-after : after ≡ stands t o
+-- what `list_text` and `refused_text` leave, which never lack room
+pub text-left : (D : ℕ) (l o : List ℕ) (r : Answer) (o' : List ℕ) → TextOf D l o r o' → D ≤ deepest → Good D l → length (textOf D l) ≤ length o → _≡_ {A = Answer × List ℕ} (r, o') (given (length (textOf D l)), stands (textOf D l) o)
+text-left D l o r o' w h g room = one-text D l o (r, o') (_, _) w (list-fitting (textOf D l) o D l h g room)
 
-pub text-front : (D : ℕ) (l o : List ℕ) (r : Answer) (o' : List ℕ) → TextOf D l o r o' → D ≤ deepest → Good D l → length (textOf D l) ≤ length o → Front (textOf D l) o r o'
-text-front D l o r o' (inl (a, (deep, _), e)) h g room = absurd (omega arith)
-text-front D l o r o' (inr (p, inl (a, (bad, _), e))) h g room = absurd (no-fault D l g bad)
-text-front D l o r o' (inr (p, inr (q, inl (a, (short, _), e)))) h g room = absurd (omega arith)
-text-front D l o r o' (inr (p, inr (q, inr (_, e)))) h g room = record { is-answer = ap (λ (x : Answer × List ℕ). x .0) e; is-after = ap (λ (x : Answer × List ℕ). x .1) e }
+pub refused-left : (n p : ℕ) (o : List ℕ) (r : Answer) (o' : List ℕ) → RefusedOf n p o r o' → 50 ≤ length o → _≡_ {A = Answer × List ℕ} (r, o') (given (length (refusedText n p)), stands (refusedText n p) o)
+refused-left n p o r o' w room = one-refused n p o (r, o') (_, _) w (writes-fitting (refusedText n p) o (omega (arith, refused-length n p)))
 
-pub refused-front : (n p : ℕ) (o : List ℕ) (r : Answer) (o' : List ℕ) → RefusedOf n p o r o' → 50 ≤ length o → Front (refusedText n p) o r o'
-refused-front n p o r o' (inl (a, (short, _), e)) room = absurd (omega (arith, refused-length n p))
-refused-front n p o r o' (inr (_, e)) room = record { is-answer = ap (λ (x : Answer × List ℕ). x .0) e; is-after = ap (λ (x : Answer × List ℕ). x .1) e }
+-- the page of the text t
+pub page-of : (b o t : List ℕ) (r : Answer) (after : List ℕ) → Printed b t → _≡_ {A = Answer × List ℕ} (r, after) (given (length t), stands t o) → Page b o (r .place) after
+page-of b o t r after p e = record { text = t; printed = p; count = ap (λ (x : Answer × List ℕ). x .0 .place) e; written = ap (λ (x : Answer × List ℕ). x .1) e }
 
 -- the text lies within the buffer
 pub page-within : (b o : List ℕ) (r : ℕ) (after : List ℕ) → Page b o r after → r ≤ length after

@@ -9,9 +9,11 @@ use lib.ListN.{length, set, take, drop, drop-of-length-le}
 use lib.Seq.{sets, sets-eq, length-take-le}
 use Rattle.cells.specs.Answer.{answer, given, Decided, alone, keeping, deepest, TooDeep}
 use Rattle.cells.specs.declared.Answer.{Answer}
-use Rattle.cells.proofs.Decisions.{One, one-equal, one-refuses, one-refuses-first, one-decided, passes, decided-first, decided-next}
+use Rattle.cells.proofs.Decisions.{One, one-equal, one-refuses, one-refuses-first, one-decided, passes, deep-enough, decided-first, decided-next}
+use Rattle.records.specs.Record.{Good}
 use Rattle.records.specs.Fault.{Faulty}
 use Rattle.records.specs.Writing.{stands, TooShort, WritesOf, ListWritesOf}
+use Rattle.records.proofs.First.{good-passes}
 use Rattle.records.proofs.CallLaws.{checks}
 
 -- ---- runs of stores; a store past the end changes nothing
@@ -45,6 +47,10 @@ module _ (t o : List ℕ) where
   pub one-writes : One (λ (s : Answer × List ℕ). WritesOf t o (s .0) (s .1))
   one-writes = one-decided (keeping o) (TooShort (length t) o ∷ []) _ (one-refuses, tt) one-equal
 
+  -- where it fits
+  pub writes-fitting : length t ≤ length o → WritesOf t o (given (length t)) (stands t o)
+  writes-fitting h = inr (passes (λ x. omega arith), refl)
+
   module _ (need : ℕ) (counted : need ≡ length t) (r : Answer) (after : List ℕ) where
     pub too-short : length o < need → r ≡ answer 8 need 0 → after ≡ o → WritesOf t o r after
     too-short h e kept = inl (_, (omega (arith, counted), refl), ap₂ (λ (a : Answer) (l : List ℕ). (a, l)) (e ∙ ap (λ (n : ℕ). answer 8 n 0) counted) kept)
@@ -56,6 +62,9 @@ module _ (t o : List ℕ) where
   module _ (D : ℕ) (l : List ℕ) where
     pub one-list-writes : One (λ (s : Answer × List ℕ). ListWritesOf D l t o (s .0) (s .1))
     one-list-writes = one-decided (keeping o) (TooDeep deepest D ∷ Faulty D l 1 ∷ TooShort (length t) o ∷ []) _ (one-refuses, (one-refuses-first, (one-refuses, tt))) one-equal
+
+    pub list-fitting : D ≤ deepest → Good D l → length t ≤ length o → ListWritesOf D l t o (given (length t)) (stands t o)
+    list-fitting h g room = inr (passes (deep-enough h), inr (good-passes D l 1 g, writes-fitting room))
 
     module _ (n : ℕ) (a : Answer) (d : Decided alone (TooDeep deepest D ∷ Faulty D l 1 ∷ []) (λ x. x ≡ given n) a) where
       pub list-refused : (a .number ≡ 0 → ⊥) → ListWritesOf D l t o a o

@@ -1,16 +1,13 @@
 -- The listing of a record: document 01, "Listing program". Bytes are ASCII. Definitions only.
-use mathlib.Core.Path.{_≡_}
 use mathlib.Core.Bool.{true, false}
 use mathlib.Core.List.{List, [], _∷_, _++_}
 use Prim.Native.Nat.{ℕ, zero, suc, _+_, _/_, _%_, _^_}
 use lib.Dec.{ltb}
 use lib.ListN.{length}
-use Rattle.cells.specs.Answer.{given, Decided, keeping, deepest, TooDeep}
 use Rattle.cells.specs.Cell.{level, index}
 use Rattle.cells.specs.declared.Answer.{Answer}
 use Rattle.records.specs.Record.{black}
 use Rattle.records.specs.Count.{count}
-use Rattle.records.specs.Fault.{Faulty}
 use Rattle.records.specs.Writing.{WritesOf, ListWritesOf}
 
 -- the digits of n in base b, at most f + 1 of them, no zeros in front

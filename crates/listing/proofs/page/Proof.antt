@@ -1,5 +1,5 @@
 -- `listing::page` meets its contract: neither the codes nor the text are ever short of room. Assumes nothing.
-use mathlib.Core.Path.{_≡_, refl, sym, ap, ap₂, subst, _∙_}
+use mathlib.Core.Path.{_≡_, refl, sym, ap, ap₂, _∙_}
 use mathlib.Core.List.{List}
 use mathlib.Core.Logic.{inr}
 use Prim.Native.Nat.{ℕ, _≤_}
@@ -7,7 +7,6 @@ use native.Mathlib.Omega.{arith}
 use borrow.Author.Needs.{needs}
 use lib.ListN.{length, take, drop}
 use lib.Seq.{take-append-seam, length-take-le}
-use Rattle.cells.specs.declared.Answer.{Answer}
 use Rattle.cells.proofs.Bools.{clash}
 use Rattle.cells.proofs.Decisions.{passes}
 use Rattle.records.proofs.CallLaws.{no-fault}
@@ -17,7 +16,7 @@ use Rattle.blocks.proofs.Sound.{shallow-file}
 use Rattle.blocks.proofs.Theorems.{ReadSuccess, read-success}
 use Rattle.text.specs.Text.{textOf, TextOf, refusedText}
 use Rattle.listing.specs.Listing.{mostCodes}
-use Rattle.listing.proofs.Pages.{few-codes, text-length, refused-printed, text-front, refused-front}
+use Rattle.listing.proofs.Pages.{few-codes, text-length, refused-printed, text-left, refused-left, page-of}
 use Rattle.listing.proofs.page.Statement.{statement}
 use Rattle.listing.proofs.page.Tie as tie
 
@@ -28,13 +27,10 @@ returns c =
     let d = t .before .before .before .before in
     let s = d .before .before .before .before .before in
     let a = d .read .result .answer in
-    let f = refused-front (a .number) (a .place) (s .args .text .now) (r .refused-text .result) _ (r .refused-text .ensures) (omega (arith, s .pre .2)) in
-    record {
-      text = refusedText (a .number) (a .place);
-      printed = refused-printed (s .args .bytes .now) (s .args .codes .now) (d .read .result) _ (d .read .ensures) (t .if1 .taken) (s .pre .0) (s .pre .1);
-      count = ap (λ (x : Answer). x .place) (f .is-answer);
-      written = f .is-after;
-    }
+    let o = s .args .text .now in
+    page-of (s .args .bytes .now) o (refusedText (a .number) (a .place)) (r .refused-text .result) _
+    (refused-printed (s .args .bytes .now) (s .args .codes .now) (d .read .result) _ (d .read .ensures) (t .if1 .taken) (s .pre .0) (s .pre .1))
+    (refused-left (a .number) (a .place) o (r .refused-text .result) _ (r .refused-text .ensures) (omega (arith, s .pre .2)))
 
 -- ---- a good file
 
@@ -79,17 +75,12 @@ returns-2 c =
     let l = c .before .before in
     let e = l .before .before .before in
     let o = s e .args .text .now in
-    let w : TextOf (depthOf (b e)) (codes (b e)) o (l .list-text .result) (l .list-text .last .1 .1 .0) =
-    subst (λ (x : List ℕ). TextOf (depthOf (b e)) x o (l .list-text .result) (l .list-text .last .1 .1 .0)) (front e)
-    (subst (λ (D : ℕ). TextOf D (take (d e .read .result .answer .place) (d e .read .last .1 .0)) o (l .list-text .result) (l .list-text .last .1 .1 .0)) (is-depth e) (l .list-text .ensures)) in
+    let D = depthOf (b e) in
+    let k = codes (b e) in
+    let w : TextOf D k o (l .list-text .result) (l .list-text .last .1 .1 .0) = rw (is-depth e, front e) at (l .list-text .ensures) in
     let h = shallow-file (b e) (file e .is-sound) in
-    let f = text-front (depthOf (b e)) (codes (b e)) o (l .list-text .result) _ w h (file e .good) (omega (arith, text-length (depthOf (b e)) (codes (b e)) h, few e, s e .pre .2)) in
-    record {
-      text = textOf (depthOf (b e)) (codes (b e));
-      printed = inr (passes (clash (file e .is-sound)), inr (passes (no-fault (depthOf (b e)) (codes (b e)) (file e .good)), refl));
-      count = ap (λ (x : Answer). x .place) (f .is-answer);
-      written = f .is-after;
-    }
+    page-of (b e) o (textOf D k) (l .list-text .result) _ (inr (passes (clash (file e .is-sound)), inr (passes (no-fault D k (file e .good)), refl)))
+    (text-left D k o (l .list-text .result) _ w h (file e .good) (omega (arith, text-length D k h, few e, s e .pre .2)))
 
 pub page-spec : {M : Type 1} → statement M
 page-spec =

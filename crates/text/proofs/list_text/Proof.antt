@@ -1,11 +1,9 @@
 -- `text::list_text` meets its contract. Assumes nothing.
 use mathlib.Core.Path.{_≡_, sym, ap}
-use mathlib.Core.List.{List, [], _∷_}
+use mathlib.Core.List.{List}
 use Prim.Native.Nat.{ℕ}
 use borrow.Author.Needs.{needs}
-use lib.ListN.{length}
 use lib.Seq.{length-take-le}
-use Rattle.cells.specs.Answer.{given, keeping}
 use Rattle.cells.specs.declared.Answer.{Answer}
 use Rattle.records.specs.Writing.{WritesOf}
 use Rattle.records.proofs.Writing.{list-refused, list-written}

@@ -1,11 +1,10 @@
 -- `blocks::writer::write` meets its contract. Assumes nothing.
 use mathlib.Core.Path.{_≡_, refl, sym, ap, _∙_}
-use mathlib.Core.List.{List, [], _∷_}
+use mathlib.Core.List.{List}
 use Prim.Native.Nat.{ℕ, _*_, _^_, _<_}
 use native.Mathlib.Omega.{arith}
 use borrow.Author.Needs.{needs}
 use lib.ListN.{length}
-use Rattle.cells.specs.Answer.{given, keeping}
 use Rattle.cells.specs.declared.Answer.{Answer}
 use Rattle.cells.proofs.Words.{pow8-small}
 use Rattle.records.specs.Writing.{WritesOf}
