@@ -8,16 +8,17 @@ use native.Mathlib.Nat.{eq-or-lt-of-le, le-of-suc-le-suc}
 use native.Mathlib.Omega.{arith}
 use lib.ListN.{length, getD}
 use lib.Seq.{ext-getD}
-use borrow.Author.Tests.{ne-eqb}
 use Rattle.cells.specs.Answer.{answer}
 use Rattle.cells.specs.declared.Answer.{Answer}
 use Rattle.cells.proofs.Power.{le-or-lt}
 use Rattle.blocks.specs.declared.Sums.{Sums}
 use Rattle.blocks.specs.declared.Reading.{Reading}
-use Rattle.blocks.specs.Block.{word, check, blocks, whole, depthOf, sound, wrongAt}
+use Rattle.blocks.specs.Block.{word, check, blocks, whole, soundAt, depthOf}
 use Rattle.blocks.specs.File.{byteOf}
-use Rattle.blocks.specs.Calls.{BlockCheckOf, StoredVolumeOf, unread, ReadOf}
-use Rattle.blocks.proofs.Sound.{RightWords, wrong, soundAt, first-wrong, right-words, sound-whole}
+use Rattle.blocks.specs.Calls.{Unsound, BlockCheckOf, StoredVolumeOf, unread, ReadOf}
+use Rattle.cells.proofs.Bools.{clash}
+use Rattle.blocks.specs.Inner.{Sound}
+use Rattle.blocks.proofs.Sound.{RightWords, wrong, right-words}
 use Rattle.blocks.proofs.Words.{each-word, check-ext, check-small, same-words-sound, word-small, bytes-of-word}
 use Rattle.blocks.proofs.CallLaws.{one-check-blocks, one-stored-volume, one-read}
 
@@ -79,14 +80,14 @@ module _ (b b' : List ℕ) (i w : ℕ) (c : Changed b b' i w) where
           ∙ bytes-of-word b (c .bytes) i w (k - (512 * i + 4 * w)) (omega arith)
           ∙ ap (λ (n : ℕ). getD b n 0) z
 
-  module _ (s : sound b ≡ true) where
+  module _ (s : Sound b) where
     same-blocks : blocks b' ≡ blocks b
     unfolding blocks
     same-blocks = ap (λ (n : ℕ). n / 512) (c .same-length)
 
     same-whole : whole b' ≡ true
     unfolding whole
-    same-whole = rw (same-blocks, c .same-length) (sound-whole b s)
+    same-whole = rw (same-blocks, c .same-length) (s .is-whole)
 
     -- no block of the new file whose words are right stands at i
     found : (n D : ℕ) → RightWords (word b' i) i n D → ⊥
@@ -116,25 +117,20 @@ module _ (b b' : List ℕ) (i w : ℕ) (c : Changed b b' i w) where
         let d : word b' 0 2 ≡ word b 0 2 = other 0 2 (omega arith) (λ z. omega (arith, c .in-block)) in
         rw (same-blocks, d) (same-words-sound (word b j) (word b' j) j (blocks b) (depthOf b) (λ v l. other j v l (λ z. omega (arith, c .in-block))) (right-words b s j (omega (arith, c .block))))
 
-    change-place : wrongAt b' ≡ i
-    change-place = first-wrong b' same-whole i (omega (arith, c .block, same-blocks)) (sym (wrong (word b' i) i (blocks b') (depthOf b') (found (blocks b') (depthOf b')))) earlier
-
-    change-unsound : sound b' ≡ false
-    unfolding sound
-    change-unsound = rw (same-whole, ne-eqb (wrongAt b') (blocks b') (λ e. omega (arith, change-place, c .block, same-blocks)))
-
     -- ---- the calls: 9, at the block that was changed, and the reader's buffer as it was
 
-    nine : (answer 9 i 0 ≡ answer 9 (wrongAt b') 0) × (sound b' ≡ false)
-    nine = (ap (λ (p : ℕ). answer 9 p 0) (sym change-place), change-unsound)
+    nine : Unsound b' (answer 9 i 0)
+    nine =
+        let bad : soundAt b' i ≡ false = sym (wrong (word b' i) i (blocks b') (depthOf b') (found (blocks b') (depthOf b'))) in
+        inr (same-whole, (i, record { below = omega (arith, c .block, same-blocks); here = bad; before = λ j h e. clash (earlier j h) e }, refl))
 
     pub damage-checked : (r : Answer) → BlockCheckOf b' r → r ≡ answer 9 i 0
-    damage-checked r d = one-check-blocks b' r (answer 9 i 0) d (inl (_, (nine .1, refl), nine .0))
+    damage-checked r d = one-check-blocks b' r (answer 9 i 0) d (inl (_, nine, refl))
 
     pub damage-measured : (r : Answer) → StoredVolumeOf b' r → r ≡ answer 9 i 0
-    damage-measured r d = one-stored-volume b' r (answer 9 i 0) d (inl (_, (nine .1, refl), nine .0))
+    damage-measured r d = one-stored-volume b' r (answer 9 i 0) d (inl (_, nine, refl))
 
     pub damage-read : (o : List ℕ) (r : Reading) (o' : List ℕ) → ReadOf b' o r o' → (r ≡ record { answer = answer 9 i 0; depth = 0 }) × (o' ≡ o)
     damage-read o r o' d =
-        let e = one-read b' o (r, o') (unread o (answer 9 i 0)) d (inl (_, (nine .1, refl), ap (unread o) (nine .0))) in
+        let e = one-read b' o (r, o') (unread o (answer 9 i 0)) d (inl (_, nine, refl)) in
         (ap (λ (t : Reading × List ℕ). t .0) e, ap (λ (t : Reading × List ℕ). t .1) e)

@@ -8,18 +8,18 @@ use native.Mathlib.Omega.{arith}
 use lib.ListN.{length, replicate, length-replicate}
 use Rattle.cells.specs.Answer.{answer, given}
 use Rattle.cells.specs.declared.Answer.{Answer}
-use Rattle.cells.proofs.Bools.{clash}
-use Rattle.cells.proofs.Decisions.{passes}
+use Rattle.cells.proofs.Decisions.{opening-known}
 use Rattle.cells.specs.Cell.{level, index, span, start, holds}
 use Rattle.records.specs.Record.{black, Good}
 use Rattle.records.specs.Count.{count}
-use Rattle.records.specs.Fault.{firstFrom}
-use Rattle.records.proofs.CallLaws.{checked, no-fault}
+use Rattle.records.proofs.First.{good-passes}
+use Rattle.records.proofs.CallLaws.{checks}
 use Rattle.records.proofs.Instances.{check-holds}
-use Rattle.blocks.specs.Block.{check, blocks, whole, sound, wrongAt}
+use Rattle.blocks.specs.Block.{check, blocks, whole}
 use Rattle.blocks.specs.File.{plain, fileOf}
 use Rattle.blocks.specs.Calls.{BlockCheckOf, StoredVolumeOf, ReadOf, WriteOf}
 use Rattle.blocks.specs.declared.Reading.{Reading}
+use Rattle.blocks.proofs.Sound.{sound-passes}
 use Rattle.blocks.proofs.RoundTrip.{Storable, good-storable, file-sound, file-depth, file-codes}
 use Rattle.blocks.proofs.CallLaws.{one-check-blocks, one-stored-volume, one-read, one-write}
 use Rattle.blocks.proofs.Theorems.{writes-good, reads-file}
@@ -40,18 +40,18 @@ abbrev one : List ℕ
 one = 559 ∷ []
 
 good : Good 3 one
-good = checked 3 one (given 1) check-holds refl .good
+good = opening-known (checks 3 one) (given 1) check-holds refl .good
 
 storable : Storable 3 one
 storable = good-storable 3 one (omega arith) good
 
 pub block-check-holds : BlockCheckOf (fileOf 3 one) (given 1)
-block-check-holds = inr (passes (clash (file-sound 3 one storable)), ap (λ (l : List ℕ). given (length l)) (sym (file-codes 3 one storable)))
+block-check-holds = inr (sound-passes (fileOf 3 one) (file-sound 3 one storable), ap (λ (l : List ℕ). given (length l)) (sym (file-codes 3 one storable)))
 
 -- no byte at all: 9, with no whole block
 pub block-check-refuses : BlockCheckOf [] (answer 9 0 0)
-unfolding blocks whole sound wrongAt firstFrom
-block-check-refuses = inl (_, (refl, refl), refl)
+unfolding blocks whole
+block-check-refuses = inl (_, inl (refl, refl), refl)
 
 pub block-check-fails : BlockCheckOf [] (given 0) → ⊥
 block-check-fails h = let e : _≡_ {A = ℕ} 0 9 = ap (λ (r : Answer). r .number) (one-check-blocks [] _ _ h block-check-refuses) in omega arith
@@ -62,7 +62,7 @@ one-voxel = refl
 
 pub stored-volume-holds : StoredVolumeOf (fileOf 3 one) (given 1)
 stored-volume-holds =
-    rw (file-depth 3 one storable, file-codes 3 one storable) (inr (passes (clash (file-sound 3 one storable)), inr (passes (no-fault 3 one good), ap given (sym one-voxel))))
+    inr (sound-passes (fileOf 3 one) (file-sound 3 one storable), rw (file-depth 3 one storable, file-codes 3 one storable) (inr (good-passes 3 one 1 good, ap given (sym one-voxel))))
 
 pub stored-volume-fails : StoredVolumeOf (fileOf 3 one) (given 512) → ⊥
 stored-volume-fails h = let e : _≡_ {A = ℕ} 512 1 = ap (λ (r : Answer). r .place) (one-stored-volume (fileOf 3 one) _ _ h stored-volume-holds) in omega arith

@@ -19,10 +19,11 @@ use Rattle.records.proofs.Leaves.{member}
 use Rattle.records.proofs.Fault.{member-at, all-made}
 use Rattle.records.proofs.Most.{few-leaves}
 use Rattle.blocks.specs.declared.Sums.{Sums}
-use Rattle.blocks.specs.Block.{word, check, rightCount, blocks, whole, depthOf, sound, wrongAt, codes}
+use Rattle.blocks.specs.Block.{word, check, rightCount, blocks, whole, depthOf, codes}
+use Rattle.blocks.specs.Inner.{Sound}
 use Rattle.blocks.specs.File.{blocksOf, plain, words, byteOf, fileOf}
 use Rattle.blocks.proofs.Files.{plain-code, words-plain, words-a, words-b, file-length, file-byte}
-use Rattle.blocks.proofs.Sound.{RightWords, soundAt, none-wrong, codes-length, codes-at, some-block, all-blocks, right-words}
+use Rattle.blocks.proofs.Sound.{RightWords, codes-length, codes-at, some-block, all-blocks, right-words}
 use Rattle.blocks.proofs.Words.{word-of-bytes, bytes-of-word, each-word, check-ext, check-small, same-words-sound}
 
 -- ---- a list that blocks can hold
@@ -103,16 +104,14 @@ module _ (D : ℕ) (l : List ℕ) (s : Storable D l) where
   unfolding depthOf
   file-depth = word-file 0 2 (omega arith) (omega arith) ∙ words-right 0 (omega arith) .depth
 
-  pub file-sound : sound (fileOf D l) ≡ true
-  unfolding sound whole
-  file-sound =
-      let w : whole (fileOf D l) ≡ true = rw (le-leb 1 (blocks (fileOf D l)) (omega (arith, file-blocks)), eq-eqb (length (fileOf D l) % 512) 0 (omega (arith, file-length D l))) in
-      rw (w, eq-eqb (wrongAt (fileOf D l)) (blocks (fileOf D l)) (none-wrong (fileOf D l) w right-at))
-    where
-      right-at : (i : ℕ) → i < blocks (fileOf D l) → soundAt (fileOf D l) i ≡ true
-      right-at i h =
-          rw (file-blocks, file-depth)
-          (same-words-sound (words D l i) (word (fileOf D l) i) i (blocksOf (length l)) D (λ w k. word-file i w (omega (arith, file-blocks)) k) (words-right i (omega (arith, file-blocks))))
+  pub file-sound : Sound (fileOf D l)
+  unfolding whole
+  file-sound = record {
+    is-whole = rw (le-leb 1 (blocks (fileOf D l)) (omega (arith, file-blocks)), eq-eqb (length (fileOf D l) % 512) 0 (omega (arith, file-length D l)));
+    each = λ i h.
+        rw (file-blocks, file-depth)
+        (same-words-sound (words D l i) (word (fileOf D l) i) i (blocksOf (length l)) D (λ w k. word-file i w (omega (arith, file-blocks)) k) (words-right i (omega (arith, file-blocks))));
+  }
 
   -- what the last block holds
   held-last : words D l (blocksOf (length l) - 1) 3 ≡ min 122 (length l - 122 * (blocksOf (length l) - 1))
@@ -138,7 +137,7 @@ module _ (D : ℕ) (l : List ℕ) (s : Storable D l) where
 count-blocks : (n k m : ℕ) → 1 ≤ n → k ≤ 122 → (k ≡ 0 → n ≤ 1) → m ≡ 122 * (n - 1) + k → blocksOf m ≡ n
 count-blocks n k m a b c e = ⊎-elim (λ (x : 1 ≤ k). omega arith) (λ (x : k < 1). omega (arith, c (omega arith))) (le-or-lt 1 k)
 
-module _ (b : List ℕ) (s : sound b ≡ true) where
+module _ (b : List ℕ) (s : Sound b) where
   pub same-blocks : blocksOf (length (codes b)) ≡ blocks b
   same-blocks =
       let p = right-words b s (blocks b - 1) (omega (arith, some-block b s)) in

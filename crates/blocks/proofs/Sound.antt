@@ -1,19 +1,23 @@
 -- What a sound block and a sound file say. Assumes nothing.
-use mathlib.Core.Path.{_≡_, sym}
-use mathlib.Core.Bool.{Bool, true, false, not, _&&_, _||_}
+use mathlib.Core.Path.{_≡_, refl, sym}
+use mathlib.Core.Bool.{Bool, true, false, _||_}
 use mathlib.Core.List.{List}
-use mathlib.Core.Logic.{⊎-elim}
+use mathlib.Core.Logic.{_⊎_, inl, inr, ⊎-elim}
 use Prim.Native.Nat.{ℕ, _+_, _-_, _*_, _/_, _%_, _≤_, _<_}
 use native.Mathlib.Omega.{arith}
 use lib.Dec.{leb, eqb}
 use lib.ListN.{length, getD}
-use borrow.Author.Tests.{leb-true, eqb-true, lt-ltb, le-ltb, le-leb, lt-leb, eq-eqb, ne-eqb, not-false}
+use borrow.Author.Tests.{leb-true, eqb-true, lt-ltb, le-ltb, le-leb, lt-leb, eq-eqb, ne-eqb}
 use Rattle.cells.specs.Answer.{deepest}
+use Rattle.cells.specs.declared.Answer.{Answer}
 use Rattle.cells.proofs.Power.{le-or-lt}
-use Rattle.cells.proofs.Bools.{both-true, refuted}
+use Rattle.cells.proofs.Bools.{both-true, refuted, clash}
+use Rattle.cells.proofs.Decisions.{One, one-refuses, one-refuses-first, refuses-numbered, refuses-first-numbered}
+use Rattle.cells.proofs.Firsts.{first-or-none}
 use Rattle.records.proofs.Fill.{all-true}
-use Rattle.records.proofs.First.{first-is, first-none, first-miss}
-use Rattle.blocks.specs.Block.{blockBytes, blockCodes, word, check, rightCount, unusedZero, rightCheck, soundBlock, blocks, whole, depthOf, sound, wrongAt, codes}
+use Rattle.blocks.specs.Block.{blockBytes, blockCodes, word, check, rightCount, unusedZero, rightCheck, soundBlock, blocks, whole, depthOf, soundAt, codes}
+use Rattle.blocks.specs.Calls.{Unsound}
+use Rattle.blocks.specs.Inner.{Sound}
 use Rattle.blocks.proofs.Tables.{length-tabulated, getD-tabulated}
 
 -- ---- a block: what each of its words is, where all are right
@@ -94,37 +98,12 @@ pub is-whole : (b : List ℕ) → (length b / blockBytes ≡ 0 → ⊥) → leng
 unfolding whole blocks
 is-whole b h e = rw (le-leb 1 (length b / blockBytes) (omega arith), eq-eqb (length b % blockBytes) 0 e)
 
--- block i of the file
-abbrev pub soundAt : List ℕ → ℕ → Bool
-soundAt b i = soundBlock (word b i) i (blocks b) (depthOf b)
-
-pub not-whole : (b : List ℕ) → whole b ≡ false → (sound b ≡ false) × (wrongAt b ≡ length b / blockBytes)
-unfolding sound wrongAt blocks
-not-whole b e = (rw e, first-none (λ i. whole b && not (soundAt b i)) (blocks b) (λ k h. rw e))
-
--- a whole file: its blocks, and the first wrong one
+-- a whole file and its blocks
 pub whole-blocks : (b : List ℕ) → whole b ≡ true → (1 ≤ blocks b) × (blockBytes * blocks b ≡ length b)
 unfolding whole blocks
 whole-blocks b w =
     let (some, rest) = both-true (leb 1 (length b / blockBytes)) (eqb (length b % blockBytes) 0) w in
     (leb-true 1 (length b / blockBytes) some, omega (arith, eqb-true (length b % blockBytes) 0 rest))
-
-module _ (b : List ℕ) (w : whole b ≡ true) where
-  pub whole-sound : sound b ≡ eqb (wrongAt b) (blocks b)
-  unfolding sound
-  whole-sound = rw w
-
-  pub right-before : (i : ℕ) → i < wrongAt b → soundAt b i ≡ true
-  unfolding wrongAt
-  right-before i h = not-false (soundAt b i) (rw w at (first-miss (λ j. whole b && not (soundAt b j)) (blocks b) i h))
-
-  pub first-wrong : (i : ℕ) → i < blocks b → soundAt b i ≡ false → ((k : ℕ) → k < i → soundAt b k ≡ true) → wrongAt b ≡ i
-  unfolding wrongAt
-  first-wrong i h e before = first-is (λ j. whole b && not (soundAt b j)) (blocks b) i h (rw (w, e)) (λ k l. rw (w, before k l))
-
-  pub none-wrong : ((k : ℕ) → k < blocks b → soundAt b k ≡ true) → wrongAt b ≡ blocks b
-  unfolding wrongAt
-  none-wrong all = first-none (λ j. whole b && not (soundAt b j)) (blocks b) (λ k l. rw (w, all k l))
 
 -- ---- the codes
 
@@ -138,23 +117,15 @@ codes-at b j h = getD-tabulated (λ j. word b (j / blockCodes) (4 + j % blockCod
 
 -- ---- a sound file
 
-module _ (b : List ℕ) (s : sound b ≡ true) where
-  pub sound-whole : whole b ≡ true
-  unfolding sound
-  sound-whole = both-true (whole b) (eqb (wrongAt b) (blocks b)) s .0
-
+module _ (b : List ℕ) (s : Sound b) where
   pub some-block : 1 ≤ blocks b
-  some-block = whole-blocks b sound-whole .0
+  some-block = whole-blocks b (s .is-whole) .0
 
   pub all-blocks : blockBytes * blocks b ≡ length b
-  all-blocks = whole-blocks b sound-whole .1
-
-  pub wrong-is : wrongAt b ≡ blocks b
-  unfolding sound
-  wrong-is = eqb-true (wrongAt b) (blocks b) (both-true (whole b) (eqb (wrongAt b) (blocks b)) s .1)
+  all-blocks = whole-blocks b (s .is-whole) .1
 
   pub right-words : (i : ℕ) → i < blocks b → RightWords (word b i) i (blocks b) (depthOf b)
-  right-words i h = sound-words (word b i) i (blocks b) (depthOf b) (right-before b sound-whole i (omega (arith, wrong-is)))
+  right-words i h = sound-words (word b i) i (blocks b) (depthOf b) (s .each i h)
 
   pub shallow-file : depthOf b ≤ deepest
   unfolding depthOf
@@ -166,3 +137,36 @@ module _ (b : List ℕ) (s : sound b ≡ true) where
   -- a code's word lies in the file
   pub code-within : (j : ℕ) → j < length (codes b) → blockBytes * (j / blockCodes) + blockBytes ≤ length b
   code-within j h = omega (arith, codes-most, all-blocks)
+
+-- ---- number 9
+
+pub unsound-numbered : (b : List ℕ) (a : Answer) → Unsound b a → a .number ≡ 0 → ⊥
+unsound-numbered b a (inl t) z = refuses-numbered (λ e. omega arith) a t z
+unsound-numbered b a (inr (_, t)) z = refuses-first-numbered (λ i _ e. omega arith) a t z
+
+pub one-unsound : (b : List ℕ) → One (Unsound b)
+one-unsound b a c (inl x) (inl y) = one-refuses a c x y
+one-unsound b a c (inl x) (inr y) = absurd (clash (y .0) (x .0))
+one-unsound b a c (inr x) (inl y) = absurd (clash (x .0) (y .0))
+one-unsound b a c (inr x) (inr y) = one-refuses-first a c (x .1) (y .1)
+
+-- the test passes just where the file is sound
+pub sound-passes : (b : List ℕ) → Sound b → (a : Answer) → Unsound b a → ⊥
+sound-passes b s a (inl (e, _)) = clash (s .is-whole) e
+sound-passes b s a (inr (_, (i, f, _))) = clash (s .each i (f .below)) (f .here)
+
+pub not-unsound : (b : List ℕ) → ((a : Answer) → Unsound b a → ⊥) → Sound b
+not-unsound b none =
+    let w : whole b ≡ true = not-refused (whole b) (λ e. none _ (inl (e, refl))) in
+    ⊎-elim
+    (λ (i, f). absurd (none _ (inr (w, (i, f, refl)))))
+    (λ all. record { is-whole = w; each = λ i h. not-refused (soundAt b i) (all i h) })
+    (first-or-none (λ i. soundAt b i ≡ false) (λ i. false-or-not (soundAt b i)) (blocks b))
+  where
+    not-refused : (t : Bool) → (t ≡ false → ⊥) → t ≡ true
+    not-refused true h = refl
+    not-refused false h = absurd (h refl)
+
+    false-or-not : (t : Bool) → (t ≡ false) ⊎ (t ≡ false → ⊥)
+    false-or-not true = inr (λ e. clash refl e)
+    false-or-not false = inl refl

@@ -1,7 +1,6 @@
 -- What follows of the calls `write` and `read`: a good list written and read is itself, with its depth; a sound file of a good list read and written is itself.
 -- Each law takes the calls' own definitions. Assumes nothing.
 use mathlib.Core.Path.{_≡_, refl, sym, ap, ap₂, subst, _∙_}
-use mathlib.Core.Bool.{true}
 use mathlib.Core.List.{List, _++_}
 use mathlib.Core.Logic.{inl, inr}
 use Prim.Native.Nat.{ℕ, _*_, _≤_, _<_}
@@ -10,20 +9,20 @@ use lib.ListN.{length, getD, take, drop}
 use lib.Seq.{take-append-seam}
 use Rattle.cells.specs.Answer.{given, deepest}
 use Rattle.cells.specs.declared.Answer.{Answer}
-use Rattle.cells.proofs.Bools.{clash}
 use Rattle.cells.proofs.Decisions.{passes}
 use Rattle.records.specs.Record.{Good}
 use Rattle.records.specs.Writing.{stands}
 use Rattle.records.proofs.Writing.{list-fitting}
-use Rattle.records.proofs.CallLaws.{not-faulty, faulty-numbered, no-fault}
-use Rattle.blocks.specs.Block.{blockBytes, sound, depthOf, codes}
+use Rattle.records.proofs.First.{not-faulty, faulty-numbered, good-passes}
+use Rattle.blocks.specs.Block.{blockBytes, depthOf, codes}
 use Rattle.blocks.specs.File.{blocksOf, fileOf}
 use Rattle.blocks.specs.Calls.{ReadOf, WriteOf}
+use Rattle.blocks.specs.Inner.{Sound}
 use Rattle.blocks.specs.declared.Reading.{Reading}
-use Rattle.blocks.proofs.Sound.{shallow-file}
+use Rattle.blocks.proofs.Sound.{shallow-file, unsound-numbered, sound-passes, not-unsound}
 use Rattle.blocks.proofs.Files.{file-length}
 use Rattle.blocks.proofs.RoundTrip.{good-storable, file-sound, file-depth, file-codes, same-file}
-use Rattle.blocks.proofs.CallLaws.{not-unsound, one-read, one-write}
+use Rattle.blocks.proofs.CallLaws.{one-read, one-write}
 
 -- ---- what success says
 
@@ -50,7 +49,7 @@ write-success D l o r after w z = go w
         }
 
 pub record ReadSuccess (b o : List ℕ) (r : Reading) (after : List ℕ) : Type 0 where
-  pub is-sound : sound b ≡ true
+  pub is-sound : Sound b
   pub good : Good (depthOf b) (codes b)
   pub is-reading : r ≡ record { answer = given (length (codes b)); depth = depthOf b }
   pub is-after : after ≡ stands (codes b) o
@@ -59,12 +58,12 @@ pub read-success : (b o : List ℕ) (r : Reading) (after : List ℕ) → ReadOf 
 read-success b o r after w z = go w
   where
     go : ReadOf b o r after → ReadSuccess b o r after
-    go (inl (a, (_, f), e)) = absurd (omega (arith, z, ap (λ (t : Reading × List ℕ). t .0 .answer .number) e, ap (λ (x : Answer). x .number) f))
+    go (inl (a, t, e)) = absurd (unsound-numbered b a t (ap (λ (t : Reading × List ℕ). t .0 .answer .number) (sym e) ∙ z))
     go (inr (unsound, inl (a, t, e))) = absurd (faulty-numbered (depthOf b) (codes b) 1 a t (ap (λ (t : Reading × List ℕ). t .0 .answer .number) (sym e) ∙ z))
     go (inr (unsound, inr (clean, inl (a, (_, f), e)))) = absurd (omega (arith, z, ap (λ (t : Reading × List ℕ). t .0 .answer .number) e, ap (λ (x : Answer). x .number) f))
     go (inr (unsound, inr (clean, inr (short, e)))) =
         record {
-          is-sound = not-unsound (sound b) (λ h. unsound _ (h, refl));
+          is-sound = not-unsound b unsound;
           good = not-faulty (depthOf b) (codes b) 1 clean;
           is-reading = ap (λ (t : Reading × List ℕ). t .0) e;
           is-after = ap (λ (t : Reading × List ℕ). t .1) e;
@@ -82,9 +81,9 @@ writes-good D l o h g room =
 pub reads-file : (D : ℕ) (l o : List ℕ) → D ≤ deepest → Good D l → length l ≤ length o → ReadOf (fileOf D l) o (record { answer = given (length l); depth = D }) (stands l o)
 reads-file D l o h g room =
     let s = good-storable D l h g in
-    rw (file-depth D l s, file-codes D l s) (inr (passes (clash (file-sound D l s)), inr (passes (no-fault D l g), inr (passes (λ x. omega arith), refl))))
+    inr (sound-passes (fileOf D l) (file-sound D l s), rw (file-depth D l s, file-codes D l s) (inr (good-passes D l 1 g, inr (passes (λ x. omega arith), refl))))
 
-pub writes-codes : (b o : List ℕ) → sound b ≡ true → ((k : ℕ) → getD b k 0 < 256) → Good (depthOf b) (codes b) → length b ≤ length o → WriteOf (depthOf b) (codes b) o (given (length b)) (stands b o)
+pub writes-codes : (b o : List ℕ) → Sound b → ((k : ℕ) → getD b k 0 < 256) → Good (depthOf b) (codes b) → length b ≤ length o → WriteOf (depthOf b) (codes b) o (given (length b)) (stands b o)
 writes-codes b o s small g room =
     subst (λ (f : List ℕ). WriteOf (depthOf b) (codes b) o (given (length f)) (stands f o)) (same-file b s small)
     (list-fitting (fileOf (depthOf b) (codes b)) o (depthOf b) (codes b) (shallow-file b s) g (omega (arith, ap length (same-file b s small))))

@@ -1,12 +1,12 @@
 -- Stored blocks: document 01, "Stored blocks". A file is its bytes; a block is 128 words, here a function from the word's place to its number: 0 the block's index,
 -- 1 the number of blocks, 2 the depth, 3 how many codes the block holds, 4 to 125 the codes, 126 and 127 the check. Definitions only.
 use Prim.Native.Nat.{ℕ, zero, suc, _+_, _-_, _*_, _/_, _%_, _^_}
-use mathlib.Core.Bool.{Bool, true, false, not, _&&_, _||_}
+use mathlib.Core.Bool.{Bool, true, false, _&&_, _||_}
 use mathlib.Core.List.{List, [], _∷_, _++_}
 use lib.Dec.{leb, ltb, eqb}
 use lib.ListN.{length, getD}
 use Rattle.cells.specs.Answer.{deepest}
-use Rattle.records.specs.Fault.{allFrom, firstFrom}
+use Rattle.records.specs.Fault.{allFrom}
 use Rattle.blocks.specs.declared.Sums.{Sums}
 
 -- the bytes of a block, and the codes that it can hold
@@ -72,12 +72,9 @@ whole b = leb 1 (blocks b) && eqb (length b % blockBytes) 0
 unfoldable pub depthOf : List ℕ → ℕ
 depthOf b = word b 0 2
 
--- the place that number 9 names: of a whole file the first block with a wrong word; else, or where no block has one, the count of whole blocks
-unfoldable pub wrongAt : List ℕ → ℕ
-wrongAt b = firstFrom (λ i. whole b && not (soundBlock (word b i) i (blocks b) (depthOf b))) 0 (blocks b)
-
-unfoldable pub sound : List ℕ → Bool
-sound b = whole b && eqb (wrongAt b) (blocks b)
+-- whether every word of block i is right
+abbrev pub soundAt : List ℕ → ℕ → Bool
+soundAt b i = soundBlock (word b i) i (blocks b) (depthOf b)
 
 -- the numbers f 0 to f (n - 1)
 unfoldable pub tabulated : (ℕ → ℕ) → ℕ → List ℕ

@@ -1,22 +1,23 @@
 -- What the calls on stored files leave: `check_blocks`, `stored_volume`, `read` and `write`. Document 01, "Stored blocks" and "Numbers a call gives". Definitions only.
 use mathlib.Core.Path.{_≡_}
-use mathlib.Core.Bool.{false}
+use mathlib.Core.Logic.{_⊎_}
+use mathlib.Core.Bool.{true, false}
 use mathlib.Core.List.{List, [], _∷_}
 use Prim.Native.Nat.{ℕ, _^_}
 use lib.ListN.{length}
-use Rattle.cells.specs.Answer.{answer, given, Test, Decided, alone, refuses}
+use Rattle.cells.specs.Answer.{answer, given, Test, Decided, alone, refuses, refusesFirst}
 use Rattle.cells.specs.declared.Answer.{Answer}
 use Rattle.records.specs.Record.{black}
 use Rattle.records.specs.Count.{count}
 use Rattle.records.specs.Fault.{Faulty}
 use Rattle.records.specs.Writing.{stands, TooShort, ListWritesOf}
 use Rattle.blocks.specs.declared.Reading.{Reading}
-use Rattle.blocks.specs.Block.{sound, wrongAt, depthOf, codes}
+use Rattle.blocks.specs.Block.{blocks, whole, soundAt, depthOf, codes}
 use Rattle.blocks.specs.File.{fileOf}
 
--- number 9: the stored blocks b are unsound
+-- number 9: a length that is 0 or no multiple of a block's, with the count of whole blocks; else the first block with any wrong word
 abbrev pub Unsound : List ℕ → Test
-Unsound b = refuses (answer 9 (wrongAt b) 0) (sound b ≡ false)
+Unsound b a = refuses (answer 9 (blocks b) 0) (whole b ≡ false) a ⊎ ((whole b ≡ true) × refusesFirst (blocks b) (λ i. soundAt b i ≡ false) (λ i. answer 9 i 0) a)
 
 -- THE CALL check_blocks: how many codes the file holds
 abbrev pub BlockCheckOf : List ℕ → Answer → Type 0

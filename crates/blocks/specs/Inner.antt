@@ -1,5 +1,6 @@
 -- INNER: for the contracts of private and inner functions. Definitions only.
 use mathlib.Core.Path.{_≡_}
+use mathlib.Core.Bool.{true}
 use mathlib.Core.List.{List, [], _∷_}
 use Prim.Native.Nat.{ℕ, _+_, _/_, _%_, _^_, _<_}
 use lib.ListN.{length, set}
@@ -7,10 +8,15 @@ use lib.Seq.{sets}
 use Rattle.cells.specs.Answer.{given, Decided, alone}
 use Rattle.records.specs.Fault.{Faulty}
 use Rattle.records.specs.Inner.{volume}
-use Rattle.blocks.specs.Block.{blockBytes, depthOf, tabulated, codes}
+use Rattle.blocks.specs.Block.{blockBytes, blocks, whole, soundAt, depthOf, tabulated, codes}
 use Rattle.blocks.specs.File.{blocksOf, words, byteOf}
 use Rattle.blocks.specs.Calls.{Unsound}
 use Rattle.blocks.specs.declared.inner.held.Holding.{Holding}
+
+-- a file whose length and blocks are right
+pub record Sound (b : List ℕ) : Type 0 where
+  pub is-whole : whole b ≡ true
+  pub each : (i : ℕ) → i < blocks b → soundAt b i ≡ true
 
 -- the bytes b with the four of the word x from place p on
 abbrev pub stored : List ℕ → ℕ → ℕ → List ℕ

@@ -5,16 +5,16 @@ use crate::inner::words::code_at;
 use cells::Answer;
 use cells::inner::refusal;
 ghost use mathlib.Core.Path.{_≡_};
-ghost use mathlib.Core.Bool.{true};
 ghost use Prim.Native.Nat.{_≤_};
 ghost use lib.ListN.{length};
 ghost use Rattle.records.specs.Writing.{stands};
-ghost use Rattle.blocks.specs.Block.{sound, codes};
+ghost use Rattle.blocks.specs.Block.{codes};
+ghost use Rattle.blocks.specs.Inner.{Sound};
 ghost use Rattle.blocks.specs.Calls.{ReadOf};
 
 // The n codes of a sound file, at the front of `out`.
 fn copy(bytes: &[u8], n: usize, out: &mut [u32])
-    requires { ⌜ (sound (now bytes) ≡ true) × (n ≡ length (codes (now bytes))) × (n ≤ length (now out)) ⌝ }
+    requires { ⌜ Sound (now bytes) × (n ≡ length (codes (now bytes))) × (n ≤ length (now out)) ⌝ }
     ensures { λ _. ⌜ now (out .exit) ≡ stands (codes (now (bytes .entry))) (now (out .entry)) ⌝ }
 {
     let mut i: usize = 0;

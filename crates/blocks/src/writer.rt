@@ -10,7 +10,7 @@ use crate::inner::words::store_word;
 use cells::Answer;
 use cells::inner::refusal;
 use cells::inner::success;
-use records::checks::check;
+use records::check;
 ghost use mathlib.Core.Path.{_≡_};
 ghost use mathlib.Core.List.{List};
 ghost use Prim.Native.Nat.{ℕ, _+_, _*_, _≤_, _<_, _^_};

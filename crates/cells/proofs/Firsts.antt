@@ -1,10 +1,13 @@
 -- The first number below n that has P: there is one at most, and one or none where P is decided. Assumes nothing.
 use mathlib.Core.Path.{_≡_}
+use mathlib.Core.Bool.{Bool, true, false}
 use mathlib.Core.Logic.{_⊎_, inl, inr, ⊎-elim}
 use Prim.Native.Nat.{ℕ, zero, suc, _≤_, _<_}
 use native.Mathlib.Nat.{le-refl, le-of-suc-le-suc, eq-or-lt-of-le}
 use native.Mathlib.Omega.{arith}
 use Rattle.cells.specs.Answer.{First}
+use Rattle.cells.specs.Inner.{Stops}
+use Rattle.cells.proofs.Bools.{clash}
 use Rattle.cells.proofs.Power.{le-or-lt}
 
 pub one-first : {n : ℕ} {P : ℕ → Type 0} (i j : ℕ) → First n P i → First n P j → i ≡ j
@@ -27,3 +30,11 @@ first-or-none P decide (suc n) = go (first-or-none P decide n) (decide n)
     go (inl (i, f)) d = inl (i, first-more f)
     go (inr none) (inl p) = inl (n, record { below = le-refl (suc n); here = p; before = none })
     go (inr none) (inr q) = inr (λ j h. ⊎-elim (λ (e : j ≡ n). rw e q) (λ (l : j < n). none j l) (eq-or-lt-of-le (le-of-suc-le-suc h)))
+
+-- ---- a search that stops where a test fails
+
+pub stops-first : {n : ℕ} {P : ℕ → Bool} {r : ℕ} → Stops n P r → r < n → First n (λ i. P i ≡ false) r
+stops-first s h = record { below = h; here = s .here h; before = λ i l e. clash (s .before i l) e }
+
+pub stops-never : {n : ℕ} {P : ℕ → Bool} {r : ℕ} → Stops n P r → n ≤ r → (i : ℕ) → i < n → P i ≡ true
+stops-never s h i l = s .before i (omega arith)

@@ -1,7 +1,8 @@
--- INNER: for the contracts of private functions. How the code writes a direction, as document 001's tables are read (Payeur.antt). Definitions only.
+-- INNER: for the contracts of private and inner functions: how the code writes a direction, as document 001's tables are read (Payeur.antt), and where a search stops.
+-- Definitions only.
 use mathlib.Core.Path.{_≡_}
-use mathlib.Core.Bool.{true, false}
-use Prim.Native.Nat.{ℕ, zero, suc, _/_, _%_, _^_, _<_}
+use mathlib.Core.Bool.{Bool, true, false}
+use Prim.Native.Nat.{ℕ, zero, suc, _/_, _%_, _^_, _≤_, _<_}
 use lib.IntN.{ℤ, pos, negsuc}
 use Rattle.cells.specs.Place.{EachAxis}
 use Rattle.cells.specs.Neighbour.{isDirection}
@@ -20,3 +21,9 @@ pub record Direction (d : ℕ → ℤ) (n : ℕ) : Type 0 where
   pub good : (n ≡ 0 → ⊥) → isDirection d ≡ true
   pub small : n < 27
   pub digits : (n ≡ 0 → ⊥) → EachAxis (λ a. digitOf (d a) ≡ n / 3 ^ a % 3)
+
+-- r is the first number below n that fails the test P, n where none does
+pub record Stops (n : ℕ) (P : ℕ → Bool) (r : ℕ) : Type 0 where
+  pub within : r ≤ n
+  pub before : (i : ℕ) → i < r → P i ≡ true
+  pub here : r < n → P r ≡ false

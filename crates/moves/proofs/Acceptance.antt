@@ -30,7 +30,7 @@ use Rattle.records.proofs.Leaves.{leaf-of}
 use Rattle.records.proofs.Fault.{index-of}
 use Rattle.records.proofs.Search.{proper-at}
 use Rattle.records.proofs.Carrying.{Accepted, accepted-passes}
-use Rattle.moves.specs.Inner.{Splits, keeps, keepsAlong, leafKeeps, FirstOut}
+use Rattle.moves.specs.Inner.{Splits, keeps, keepsAlong, leafKeeps}
 use Rattle.moves.specs.declared.inner.Parted.{Parted}
 
 -- ---- a displacement's parts
@@ -162,13 +162,6 @@ module _ (D : ℕ) (d : ℕ → ℤ) (p : ℕ → Parted) (split : EachAxis (λ 
         let (c, m, held) = leaf-of D l u b in
         let (i, k, e) = index-of c l m in
         leaf-stays (getD l i 0) (proper-at D l o i k) (kept i k) u (rw e held)
-
-    -- what the walk along the leaves finds
-    pub out-strays : (r : ℕ) → FirstOut D p l r → r < length l → First (length l) (λ i. Strays D (Came D d) (getD l i 0)) r
-    out-strays r f h = first-strays (record { below = h; here = f .here h; before = λ j k e. clash (f .before j k) e })
-
-    pub out-stays : (r : ℕ) → FirstOut D p l r → length l ≤ r → Accepted D (Came D d) l
-    out-stays r f h = all-stay (λ i k. f .before i (omega arith))
 
 -- ---- acceptance: no leaf strays exactly when each black voxel, displaced, stays
 

@@ -1,11 +1,9 @@
 -- INNER: for the contracts of inner functions. A displacement in natural numbers, the test that a leaf stays, and the shift back to the sources. Definitions only.
 use mathlib.Core.Path.{_≡_}
-use mathlib.Core.List.{List}
-use mathlib.Core.Bool.{Bool, true, false, _&&_}
-use Prim.Native.Nat.{ℕ, suc, _+_, _-_, _%_, _^_, _<_, _≤_}
+use mathlib.Core.Bool.{Bool, _&&_}
+use Prim.Native.Nat.{ℕ, suc, _+_, _-_, _%_, _^_}
 use lib.Dec.{leb}
 use lib.IntN.{ℤ, pos, negsuc}
-use lib.ListN.{length, getD}
 use Rattle.cells.specs.Cell.{side}
 use Rattle.cells.specs.Place.{allAxes, number, corner}
 use Rattle.moves.specs.declared.inner.Parted.{Parted}
@@ -25,12 +23,6 @@ keepsAlong D b d c = keeps (2 ^ D) (corner b D c) (side D c) d
 
 unfoldable pub leafKeeps : ℕ → (ℕ → Parted) → ℕ → Bool
 leafKeeps D p c = allAxes (λ a. keepsAlong D (2 ^ a) (p a) c)
-
--- r is the first index whose leaf does not stay, the length where all stay
-pub record FirstOut (D : ℕ) (p : ℕ → Parted) (l : List ℕ) (r : ℕ) : Type 0 where
-  pub within : r ≤ length l
-  pub before : (i : ℕ) → i < r → leafKeeps D p (getD l i 0) ≡ true
-  pub here : r < length l → leafKeeps D p (getD l r 0) ≡ false
 
 -- a displacement turned round, modulo the root's side
 unfoldable pub turned : ℕ → Parted → ℕ

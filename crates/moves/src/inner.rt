@@ -8,9 +8,11 @@ ghost use mathlib.Core.Bool.{true};
 ghost use Prim.Native.Nat.{_≤_, _<_};
 ghost use Rattle.cells.specs.Answer.{deepest};
 ghost use Rattle.cells.specs.Cell.{proper};
+ghost use Rattle.cells.specs.Inner.{Stops};
 ghost use Rattle.cells.specs.Place.{axes};
+ghost use lib.ListN.{length, getD};
 ghost use Rattle.records.specs.Record.{Ordered};
-ghost use Rattle.moves.specs.Inner.{Splits, keeps, keepsAlong, leafKeeps, FirstOut, turned, back};
+ghost use Rattle.moves.specs.Inner.{Splits, keeps, keepsAlong, leafKeeps, turned, back};
 
 // A displacement along one axis: up - down, one of them 0.
 pub struct Parted {
@@ -73,7 +75,7 @@ pub fn leaf_stays(depth: u32, code: u32, x: Parted, y: Parted, z: Parted) -> boo
 // The index of the first leaf that strays from the root, or the leaf count.
 pub fn first_stray(depth: u32, list: &[u32], x: Parted, y: Parted, z: Parted) -> usize
     requires { ⌜ (depth ≤ deepest) × Ordered depth 0 (now list) ⌝ }
-    ensures { λ r. ⌜ FirstOut depth (axes x y z) (now (list .entry)) r ⌝ }
+    ensures { λ r. ⌜ Stops (length (now (list .entry))) (λ i. leafKeeps depth (axes x y z) (getD (now (list .entry)) i 0)) r ⌝ }
 {
     let mut i: usize = 0;
     while i < list.len() {

@@ -3,41 +3,28 @@ use crate::check_blocks;
 use crate::inner::words::code_at;
 use crate::inner::words::word_at;
 use cells::Answer;
-use cells::inner::refusal;
-use records::inner::Verdict;
+use records::inner::Walk;
 use records::inner::begin;
 use records::inner::step;
+use records::inner::told;
 ghost use mathlib.Core.Path.{_≡_};
-ghost use mathlib.Core.Bool.{true};
 ghost use lib.ListN.{length};
-ghost use Rattle.records.specs.Walk.{Found};
-ghost use Rattle.blocks.specs.Block.{sound, depthOf, codes};
-ghost use Rattle.blocks.specs.Inner.{HoldingOf};
+ghost use Rattle.records.specs.Walk.{Walked};
+ghost use Rattle.blocks.specs.Block.{depthOf, codes};
+ghost use Rattle.blocks.specs.Inner.{Sound, HoldingOf};
 
-// The first fault of the n codes of a sound file.
-pub fn judge_stored(depth: u32, bytes: &[u8], n: usize) -> Verdict
-    requires { ⌜ (sound (now bytes) ≡ true) × (depth ≡ depthOf (now bytes)) × (n ≡ length (codes (now bytes))) ⌝ }
-    ensures { λ r. ⌜ Found depth (codes (now (bytes .entry))) r ⌝ }
+// A walk along the n codes of a sound file.
+pub fn judge_stored(depth: u32, bytes: &[u8], n: usize) -> Walk
+    requires { ⌜ Sound (now bytes) × (depth ≡ depthOf (now bytes)) × (n ≡ length (codes (now bytes))) ⌝ }
+    ensures { λ r. ⌜ Walked depth (codes (now (bytes .entry))) (length (codes (now (bytes .entry)))) r ⌝ }
 {
     let mut walk = begin();
     let mut i: usize = 0;
     while i < n {
         walk = step(depth, walk, code_at(bytes, i));
-        let number = walk.number;
-        if number != 0 {
-            return Verdict {
-                number,
-                place: i as u64,
-                sum: 0,
-            };
-        }
         i += 1;
     }
-    Verdict {
-        number: 0,
-        place: i as u64,
-        sum: walk.sum,
-    }
+    walk
 }
 
 // What is told of a file: the number of its leaves or why it is refused; its depth and its leaves' voxels, 0 where it is refused.
@@ -68,15 +55,15 @@ pub fn holding_of(bytes: &[u8]) -> Holding
     }
     let depth = word_at(bytes, 0, 2);
     let n = answer.place as usize;
-    let found = judge_stored(depth, bytes, n);
-    let fault = found.number;
-    let place = found.place;
+    let walk = judge_stored(depth, bytes, n);
+    let judged = told(walk, 1);
+    let fault = judged.number;
     if fault != 0 {
-        return nothing_held(refusal(fault, place, 1));
+        return nothing_held(judged);
     }
     Holding {
         answer,
         depth,
-        voxels: found.sum,
+        voxels: walk.sum,
     }
 }

@@ -13,8 +13,10 @@ ghost use mathlib.Core.Bool.{true};
 ghost use Prim.Native.Nat.{_+_, _-_, _*_, _≤_, _<_};
 ghost use lib.Dec.{eqb};
 ghost use lib.ListN.{length};
+ghost use Rattle.cells.specs.Inner.{Stops};
 ghost use Rattle.records.specs.Fault.{allFrom};
-ghost use Rattle.blocks.specs.Block.{blockBytes, blockCodes, word, check, rightCount, rightCheck, soundBlock, blocks, whole, sound, wrongAt, codes};
+ghost use Rattle.blocks.specs.Block.{blockBytes, blockCodes, word, check, rightCount, rightCheck, soundBlock, blocks, whole, soundAt, codes};
+ghost use Rattle.blocks.specs.Inner.{Sound};
 
 // The check of the words of block i before it.
 pub fn sum_up(bytes: &[u8], i: usize) -> Sums
@@ -107,7 +109,7 @@ pub fn is_sound(bytes: &[u8], i: usize, n: usize, depth: u32) -> bool
 // The first unsound block of n, n where there is none: a whole file's.
 pub fn first_unsound(bytes: &[u8], n: usize) -> usize
     requires { ⌜ (whole (now bytes) ≡ true) × (n ≡ blocks (now bytes)) ⌝ }
-    ensures { λ r. ⌜ r ≡ wrongAt (now (bytes .entry)) ⌝ }
+    ensures { λ r. ⌜ Stops (blocks (now (bytes .entry))) (soundAt (now (bytes .entry))) r ⌝ }
 {
     let depth = word_at(bytes, 0, 2);
     let mut i: usize = 0;
@@ -122,7 +124,7 @@ pub fn first_unsound(bytes: &[u8], n: usize) -> usize
 
 // How many codes the n blocks of a sound file hold.
 pub fn leaves_of(bytes: &[u8], n: usize) -> usize
-    requires { ⌜ (sound (now bytes) ≡ true) × (n ≡ blocks (now bytes)) ⌝ }
+    requires { ⌜ Sound (now bytes) × (n ≡ blocks (now bytes)) ⌝ }
     ensures { λ r. ⌜ r ≡ length (codes (now (bytes .entry))) ⌝ }
 {
     BLOCK_CODES * (n - 1) + word_at(bytes, n - 1, 3) as usize

@@ -11,6 +11,7 @@ use mir.ValLaws.{toZ-ofZ}
 use Rattle.cells.specs.Answer.{keeping}
 use Rattle.cells.specs.Place.{axes, EachAxis, Came}
 use Rattle.cells.specs.declared.Answer.{Answer}
+use Rattle.cells.proofs.Firsts.{stops-first, stops-never}
 use Rattle.cells.proofs.Places.{each-axis}
 use Rattle.records.specs.Carried.{FromBlack}
 use Rattle.records.proofs.Carrying.{Accepted, accepted-passes}
@@ -19,7 +20,7 @@ use Rattle.shifts.specs.Shift.{shifted}
 use Rattle.moves.specs.Moves.{ShiftOf}
 use Rattle.moves.specs.Inner.{Splits, back}
 use Rattle.moves.specs.declared.inner.Parted.{Parted}
-use Rattle.moves.proofs.Acceptance.{out-strays, out-stays}
+use Rattle.moves.proofs.Acceptance.{first-strays, all-stay}
 use Rattle.moves.proofs.Back.{shifted-exactly}
 use Rattle.moves.proofs.move_whole.Statement.{statement}
 use Rattle.moves.proofs.move_whole.Tie as tie
@@ -56,7 +57,7 @@ module _ (e : tie.Else1) where
   accepted : Accepted (b .args .depth) R (b .args .list .now)
   accepted =
       let a = b .args in
-      out-stays (a .depth) (d (e .before)) (p (e .before)) (split (e .before)) (a .list .now) (b .pre .1) (e .before .first-stray .result) (e .before .first-stray .ensures) (e .if1 .left)
+      all-stay (a .depth) (d (e .before)) (p (e .before)) (split (e .before)) (a .list .now) (b .pre .1) (stops-never (e .before .first-stray .ensures) (e .if1 .left))
 
   -- the shift back gives the displaced voxels
   voxels : (w : ℕ) → w ≡ back (b .args .depth) (p (e .before))
@@ -77,7 +78,7 @@ returns c =
     let t = c .before in
     let f = t .before in
     let a = s f .args in
-    let F = out-strays (a .depth) (d f) (p f) (split f) (a .list .now) (s f .pre .1) (f .first-stray .result) (f .first-stray .ensures) (t .if1 .taken) in
+    let F = first-strays (a .depth) (d f) (p f) (split f) (a .list .now) (s f .pre .1) (stops-first (f .first-stray .ensures) (t .if1 .taken)) in
     inl (_, (f .first-stray .result, F, refl), ap (keeping (a .out .now)) (c .refusal .ensures))
 
 returns-2 : tie.Need-returns-2

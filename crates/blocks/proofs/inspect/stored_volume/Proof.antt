@@ -5,9 +5,10 @@ use Prim.Native.Nat.{ℕ}
 use borrow.Author.Needs.{needs}
 use Rattle.cells.specs.Answer.{given, alone}
 use Rattle.cells.specs.declared.Answer.{Answer}
-use Rattle.records.proofs.Volume.{blacks, list-volume}
+use Rattle.cells.proofs.Decisions.{opening-refuses, opening-passes, opening-known}
+use Rattle.records.proofs.Volumes.{blacks, list-volume}
 use Rattle.blocks.specs.Block.{depthOf, codes}
-use Rattle.blocks.proofs.CallLaws.{judged-first, judged-next, held}
+use Rattle.blocks.proofs.CallLaws.{judges-file}
 use Rattle.blocks.proofs.inspect.stored_volume.Statement.{statement}
 use Rattle.blocks.proofs.inspect.stored_volume.Tie as tie
 
@@ -22,15 +23,15 @@ returns : tie.Need-returns
 returns c =
     let t = c .before in
     let r = t .before .holding-of in
-    judged-first (b t) (r .result .answer) (r .ensures .tells) alone [] (Told t) (c .if1 .taken)
+    opening-refuses (judges-file (b t)) (r .result .answer) (r .ensures .tells) alone [] (Told t) (c .if1 .taken)
 
 returns-2 : tie.Need-returns-2
 returns-2 c =
     let t = c .before .before in
     let r = t .before .holding-of in
     let z : r .result .answer .number ≡ 0 = search needs in
-    let k = held (b t) (r .result .answer) (r .ensures .tells) z in
-    judged-next (b t) (r .result .answer) (r .ensures .tells) alone [] (Told t) _ z
+    let (k, _) = opening-known (judges-file (b t)) (r .result .answer) (r .ensures .tells) z in
+    opening-passes (judges-file (b t)) (r .result .answer) (r .ensures .tells) alone [] (Told t) _ z
     (c .success .ensures ∙ ap given (r .ensures .is-voxels z ∙ sym (list-volume (depthOf (b t)) 0 (codes (b t)) (k .good .ordered))))
 
 pub stored-volume-spec : {M : Type 1} → statement M

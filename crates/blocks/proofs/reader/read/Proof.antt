@@ -8,12 +8,12 @@ use borrow.Author.Needs.{needs}
 use lib.ListN.{length}
 use Rattle.cells.specs.Answer.{answer, given, Decided}
 use Rattle.cells.specs.declared.Answer.{Answer}
-use Rattle.cells.proofs.Decisions.{passes}
+use Rattle.cells.proofs.Decisions.{passes, opening-refuses, opening-passes, opening-known}
 use Rattle.records.specs.Writing.{stands, TooShort}
 use Rattle.blocks.specs.Block.{depthOf, codes}
 use Rattle.blocks.specs.Calls.{unread, ReadOf}
 use Rattle.blocks.specs.declared.Reading.{Reading}
-use Rattle.blocks.proofs.CallLaws.{Held, judged-first, judged-next, held, found}
+use Rattle.blocks.proofs.CallLaws.{Held, judges-file}
 use Rattle.blocks.proofs.reader.read.Statement.{statement}
 use Rattle.blocks.proofs.reader.read.Tie as tie
 
@@ -38,7 +38,7 @@ module _ (c : tie.After-answer) where
 returns : tie.Need-returns
 returns c =
     let t = c .before .before in
-    rw (c .unread .ensures) (judged-first (b t) (r t) (t .before .holding-of .ensures .tells) (unread (o t)) (TooShort (length (codes (b t))) (o t) ∷ []) (Done t) (c .before .if1 .taken))
+    rw (c .unread .ensures) (opening-refuses (judges-file (b t)) (r t) (t .before .holding-of .ensures .tells) (unread (o t)) (TooShort (length (codes (b t))) (o t) ∷ []) (Done t) (c .before .if1 .taken))
 
 -- ---- a good file
 
@@ -49,11 +49,14 @@ module _ (c : tie.Else1) where
   none : r t .number ≡ 0
   none = search needs
 
+  known : Held (b t) (r t .place) × (r t ≡ given (length (codes (b t))))
+  known = opening-known (judges-file (b t)) (r t) (t .before .holding-of .ensures .tells) none
+
   there : Held (b t) (r t .place)
-  there = held (b t) (r t) (t .before .holding-of .ensures .tells) none
+  there = known .0
 
   told : {x : Reading} {after : List ℕ} → Decided (unread (o t)) (TooShort (length (codes (b t))) (o t) ∷ []) (Done t) (x, after) → ReadOf (b t) (o t) x after
-  told d = judged-next (b t) (r t) (t .before .holding-of .ensures .tells) (unread (o t)) (TooShort (length (codes (b t))) (o t) ∷ []) (Done t) _ none d
+  told d = opening-passes (judges-file (b t)) (r t) (t .before .holding-of .ensures .tells) (unread (o t)) (TooShort (length (codes (b t))) (o t) ∷ []) (Done t) _ none d
 
 returns-2 : tie.Need-returns-2
 returns-2 c =
@@ -65,7 +68,7 @@ returns-3 c =
     let y = c .before .before in
     let u = y .before .before .before in
     let q = t u .before .holding-of in
-    let is = found (b (t u)) (r (t u)) (q .ensures .tells) (none u) in
+    let is = known u .1 in
     told u
     (inr (passes (λ h. omega (arith, there u .is-length, y .before .before .if2 .left)), ap₂ (λ (x : Reading) (l : List ℕ). (x, l)) (ap₂ (λ (a : Answer) (d : ℕ). record { answer = a; depth = d }) is (q .ensures .is-depth (none u))) (y .copy .ensures)))
 

@@ -6,9 +6,10 @@ use native.Mathlib.Omega.{arith}
 use borrow.Author.Needs.{needs}
 use lib.ListN.{length}
 use Rattle.cells.specs.declared.Answer.{Answer}
+use Rattle.cells.proofs.Decisions.{opening-known}
 use Rattle.cells.proofs.Words.{pow8-small}
 use Rattle.records.specs.Writing.{WritesOf}
-use Rattle.records.proofs.CallLaws.{Checked, checked}
+use Rattle.records.proofs.CallLaws.{Checked, checks}
 use Rattle.records.proofs.Writing.{too-short, standing, list-refused, list-written}
 use Rattle.blocks.specs.Block.{blockBytes}
 use Rattle.blocks.specs.File.{blocksOf, fileOf}
@@ -43,7 +44,7 @@ module _ (c : tie.After-blocks-of) where
   none = search needs
 
   good : Checked (s t .args .depth) (l t) (t .check .result .place)
-  good = checked (s t .args .depth) (l t) (t .check .result) (t .check .ensures) none
+  good = opening-known (checks (s t .args .depth) (l t)) (t .check .result) (t .check .ensures) none
 
   is-blocks : c .blocks-of .result ≡ blocksOf (length (l t))
   is-blocks = c .blocks-of .ensures ∙ ap blocksOf (good .is-length)

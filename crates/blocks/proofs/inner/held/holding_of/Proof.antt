@@ -1,29 +1,32 @@
 -- `blocks::inner::held::holding_of` meets its contract. Assumes nothing.
-use mathlib.Core.Path.{_≡_, refl, ap, subst, _∙_}
-use mathlib.Core.Bool.{true}
-use mathlib.Core.List.{List}
-use mathlib.Core.Logic.{inl, inr}
+use mathlib.Core.Path.{_≡_, ap, subst}
+use mathlib.Core.List.{List, [], _∷_}
+use mathlib.Core.Logic.{inr}
 use Prim.Native.Nat.{ℕ}
 use native.Mathlib.Omega.{arith}
 use borrow.Author.Needs.{needs}
 use lib.ListN.{length}
-use Rattle.cells.specs.Answer.{given}
+use Rattle.cells.specs.Answer.{given, Decided, alone}
 use Rattle.cells.specs.declared.Answer.{Answer}
-use Rattle.cells.proofs.Bools.{clash}
-use Rattle.cells.proofs.Decisions.{passes}
-use Rattle.records.specs.Walk.{Found}
-use Rattle.records.proofs.Walks.{found-refuses, found-passes}
-use Rattle.blocks.specs.Block.{sound, depthOf, codes}
-use Rattle.blocks.proofs.Sound.{some-block, all-blocks}
-use Rattle.blocks.proofs.CallLaws.{blocks-checked, blocks-refused, holds-nothing}
+use Rattle.cells.proofs.Decisions.{opening-refuses, opening-passes, opening-known}
+use Rattle.records.specs.Fault.{Faulty}
+use Rattle.records.specs.Walk.{Walked}
+use Rattle.records.proofs.First.{no-number, good-passes}
+use Rattle.records.proofs.Walks.{walked-refuses, walked-volume}
+use Rattle.blocks.specs.Block.{depthOf, codes}
+use Rattle.blocks.specs.Inner.{Sound}
+use Rattle.blocks.proofs.Sound.{some-block, all-blocks, sound-passes}
+use Rattle.blocks.proofs.CallLaws.{JudgedOf, checks-blocks, judges-file, holds-nothing}
 use Rattle.blocks.proofs.inner.held.holding_of.Statement.{statement}
 use Rattle.blocks.proofs.inner.held.holding_of.Tie as tie
 
+-- a refusal of `check_blocks` is one of the judgement
 returns : tie.Need-returns
 returns c =
     let p = c .before .before in
     let some = c .before .if1 .taken in
-    holds-nothing _ _ _ (c .nothing-held .ensures) some (blocks-refused _ _ (p .check-blocks .ensures) some)
+    let b = p .before .before .args .bytes .now in
+    holds-nothing _ _ _ (c .nothing-held .ensures) some (opening-refuses (checks-blocks b) _ (p .check-blocks .ensures) alone (Faulty (depthOf b) (codes b) 1 ∷ []) (λ a. a ≡ given (length (codes b))) some)
 
 -- ---- sound blocks
 
@@ -31,41 +34,50 @@ module _ (c : tie.Else1) where
   abbrev b : List ℕ
   b = c .before .before .before .args .bytes .now
 
-  checked : (sound b ≡ true) × (c .before .check-blocks .result ≡ given (length (codes b)))
-  checked = blocks-checked b _ (c .before .check-blocks .ensures) (search needs)
+  none : c .before .check-blocks .result .number ≡ 0
+  none = search needs
+
+  checked : Sound b × (c .before .check-blocks .result ≡ given (length (codes b)))
+  checked = opening-known (checks-blocks b) _ (c .before .check-blocks .ensures) none
 
 -- ---- the list judged
 
-module _ (c : tie.After-judge-stored) where
+module _ (c : tie.After-told) where
+  abbrev at-walk : tie.After-judge-stored
+  at-walk = c .before
+
   abbrev e : tie.Else1
-  e = c .before .before
+  e = at-walk .before .before
 
-  is-depth : c .before .word-at .result ≡ depthOf (b e)
+  is-depth : at-walk .before .word-at .result ≡ depthOf (b e)
   unfolding depthOf
-  is-depth = c .before .word-at .ensures
+  is-depth = at-walk .before .word-at .ensures
 
-  judged : Found (depthOf (b e)) (codes (b e)) (c .judge-stored .result)
-  judged = subst (λ (d : ℕ). Found d (codes (b e)) (c .judge-stored .result)) is-depth (c .judge-stored .ensures)
+  walked : Walked (depthOf (b e)) (codes (b e)) (length (codes (b e))) (at-walk .judge-stored .result)
+  walked = subst (λ (d : ℕ). Walked d (codes (b e)) (length (codes (b e))) (at-walk .judge-stored .result)) is-depth (at-walk .judge-stored .ensures)
+
+  -- the judgement, past the blocks
+  judged : {r : Answer} → Decided alone (Faulty (depthOf (b e)) (codes (b e)) 1 ∷ []) (λ a. a ≡ given (length (codes (b e)))) r → JudgedOf (b e) r
+  judged d = opening-passes (checks-blocks (b e)) _ (e .before .check-blocks .ensures) alone (Faulty (depthOf (b e)) (codes (b e)) 1 ∷ []) (λ a. a ≡ given (length (codes (b e)))) _ (none e) d
+
+  of-list : JudgedOf (b e) (c .told .result)
+  of-list = judged (c .told .ensures (depthOf (b e)) (codes (b e)) walked)
 
 judge-stored-requires : tie.Need-judge-stored-requires
 unfolding depthOf
 judge-stored-requires c κs = let k = checked (c .before) in (k .0, c .word-at .ensures, ap (λ (a : Answer). a .place) (k .1))
 
-returns-2 : tie.Need-returns-2
-returns-2 c =
-    let q = c .before .before .before in
-    let some = c .before .before .if2 .taken in
-    holds-nothing (b (e q)) _ _ (c .nothing-held2 .ensures ∙ c .before .refusal .ensures) some
-    (inr (passes (clash (checked (e q) .0)), inl (_, found-refuses (depthOf (b (e q))) (codes (b (e q))) (q .judge-stored .result) (judged q) 1 some, refl)))
-
 returns-3 : tie.Need-returns-3
 returns-3 c =
     let q = c .before in
-    let z : q .judge-stored .result .number ≡ 0 = search needs in
+    let z : q .told .result .number ≡ 0 = search needs in
+    let good = opening-known (judges-file (b (e q))) _ (of-list q) z .0 .good in
+    let clean = good-passes (depthOf (b (e q))) (codes (b (e q))) 1 good in
+    let number = no-number _ (λ some. clean _ (walked-refuses _ _ _ (walked q) 1 some)) in
     record {
-      tells = inr (passes (clash (checked (e q) .0)), inr (passes (found-passes (depthOf (b (e q))) (codes (b (e q))) (q .judge-stored .result) (judged q) z), checked (e q) .1));
+      tells = inr (sound-passes _ (checked (e q) .0), inr (clean, checked (e q) .1));
       is-depth = λ x. is-depth q;
-      is-voxels = λ x. judged q .is-sum z;
+      is-voxels = λ x. walked-volume _ _ _ (walked q) number;
     }
 
 pub holding-of-spec : {M : Type 1} → statement M
@@ -79,5 +91,5 @@ holding-of-spec =
     judge-stored-requires
     (λ c κs. search needs)
     (λ c κs. search needs)
-    returns-2
+    (λ c. holds-nothing _ _ _ (c .nothing-held2 .ensures) (c .before .if2 .taken) (of-list (c .before .before)))
     returns-3)

@@ -6,8 +6,8 @@ use native.Mathlib.Omega.{arith}
 use borrow.Author.Count.{below-more}
 use borrow.Author.Needs.{needs}
 use borrow.Author.Tests.{not-true, not-false}
-use Rattle.blocks.specs.Block.{word, soundBlock, depthOf}
-use Rattle.blocks.proofs.Sound.{soundAt, whole-blocks, first-wrong, none-wrong}
+use Rattle.blocks.specs.Block.{word, soundBlock, soundAt, depthOf}
+use Rattle.blocks.proofs.Sound.{whole-blocks}
 use Rattle.blocks.proofs.inner.soundness.first_unsound.Statement.{statement}
 use Rattle.blocks.proofs.inner.soundness.first_unsound.Tie as tie
 
@@ -36,8 +36,7 @@ module _ (c : tie.After-is-sound Inv-loop μ-loop) where
 returns : tie.Need-returns Inv-loop μ-loop
 returns c =
     let p = c .before in
-    let k : h p .loop .i < s p .args .n = omega arith in
-    sym (first-wrong (s p .args .bytes .now) (s p .pre .0) (h p .loop .i) (omega (arith, s p .pre .1)) (sym (told p) ∙ not-true _ (c .if1 .taken)) (h p .loop .inv .2))
+    record { within = omega (arith, s p .pre .1, h p .loop .inv .0); before = h p .loop .inv .2; here = λ _. sym (told p) ∙ not-true _ (c .if1 .taken) }
 
 loop-again : tie.Need-loop-again Inv-loop μ-loop
 loop-again c =
@@ -48,8 +47,7 @@ returns-2 : tie.Need-returns-2 Inv-loop μ-loop
 returns-2 c =
     let h = c .before in
     let s = h .before .before .before in
-    let e : h .loop .i ≡ s .args .n = omega arith in
-    e ∙ s .pre .1 ∙ sym (none-wrong (s .args .bytes .now) (s .pre .0) (λ k l. h .loop .inv .2 k (omega (arith, s .pre .1))))
+    record { within = omega (arith, s .pre .1, h .loop .inv .0); before = h .loop .inv .2; here = λ l. absurd (omega (arith, s .pre .1, c .loop-test .left)) }
 
 pub first-unsound-spec : {M : Type 1} → statement M
 first-unsound-spec =
