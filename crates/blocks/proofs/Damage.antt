@@ -19,7 +19,7 @@ use Rattle.blocks.specs.Calls.{Unsound, BlockCheckOf, StoredVolumeOf, un
 use Rattle.cells.proofs.Bools.{clash}
 use Rattle.blocks.specs.Inner.{Sound}
 use Rattle.blocks.proofs.Sound.{RightWords, wrong, right-words}
-use Rattle.blocks.proofs.Words.{each-word, check-ext, check-small, same-words-sound, word-small, bytes-of-word}
+use Rattle.blocks.proofs.Words.{each-word, check-ext, check-small, sound-ext, word-small, bytes-of-word}
 use Rattle.blocks.proofs.CallLaws.{one-check-blocks, one-stored-volume, one-read}
 
 -- ---- the sum A
@@ -115,7 +115,7 @@ module _ (b b' : List ℕ) (i w : ℕ) (c : Changed b b' i w) where
     unfolding depthOf
     earlier j h =
         let d : word b' 0 2 ≡ word b 0 2 = other 0 2 (omega arith) (λ z. omega (arith, c .in-block)) in
-        rw (same-blocks, d) (same-words-sound (word b j) (word b' j) j (blocks b) (depthOf b) (λ v l. other j v l (λ z. omega (arith, c .in-block))) (right-words b s j (omega (arith, c .block))))
+        rw (same-blocks, d) (sound-ext (word b j) (word b' j) j (blocks b) (depthOf b) (λ v l. other j v l (λ z. omega (arith, c .in-block))) ∙ s .each j (omega (arith, c .block)))
 
     -- ---- the calls: 9, at the block that was changed, and the reader's buffer as it was
 

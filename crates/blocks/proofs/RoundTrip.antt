@@ -19,12 +19,12 @@ use Rattle.records.proofs.Leaves.{member}
 use Rattle.records.proofs.Fault.{member-at, all-made}
 use Rattle.records.proofs.Most.{few-leaves}
 use Rattle.blocks.specs.declared.Sums.{Sums}
-use Rattle.blocks.specs.Block.{word, check, rightCount, blocks, whole, depthOf, codes}
+use Rattle.blocks.specs.Block.{word, check, rightCount, soundBlock, blocks, whole, depthOf, codes}
 use Rattle.blocks.specs.Inner.{Sound}
 use Rattle.blocks.specs.File.{blocksOf, plain, words, byteOf, fileOf}
 use Rattle.blocks.proofs.Files.{plain-code, words-plain, words-a, words-b, file-length, file-byte}
-use Rattle.blocks.proofs.Sound.{RightWords, codes-length, codes-at, some-block, all-blocks, right-words}
-use Rattle.blocks.proofs.Words.{word-of-bytes, bytes-of-word, each-word, check-ext, check-small, same-words-sound}
+use Rattle.blocks.proofs.Sound.{RightWords, sound-last, codes-length, codes-at, some-block, all-blocks, right-words}
+use Rattle.blocks.proofs.Words.{word-of-bytes, bytes-of-word, each-word, check-ext, check-small, sound-ext}
 
 -- ---- a list that blocks can hold
 
@@ -73,36 +73,30 @@ module _ (D : ℕ) (l : List ℕ) (s : Storable D l) where
   word-file : (i w : ℕ) → i < blocksOf (length l) → w < 128 → word (fileOf D l) i w ≡ words D l i w
   word-file i w h k = word-of-bytes (fileOf D l) i w (words D l i w) (words-small i h w k) (λ j x. file-byte D l i w j (512 * i + 4 * w + j) h k x refl)
 
-  -- each block of the file is sound
-  words-right : (i : ℕ) → i < blocksOf (length l) → RightWords (words D l i) i (blocksOf (length l)) D
+  held : (i : ℕ) → words D l i 3 ≡ min 122 (length l - 122 * i)
   unfolding plain
-  words-right i h =
+  held i = words-plain D l i 3 (omega arith)
+
+  -- each block of the file is sound
+  words-sound : (i : ℕ) → i < blocksOf (length l) → soundBlock (words D l i) i (blocksOf (length l)) D ≡ true
+  unfolding plain
+  words-sound i h =
+      let n = held i in
       let depth : words D l i 2 ≡ D = words-plain D l i 2 (omega arith) in
-      let held : words D l i 3 ≡ min 122 (length l - 122 * i) = words-plain D l i 3 (omega arith) in
-      let beyond : (w : ℕ) → 4 + words D l i 3 ≤ w → w < 126 → words D l i w ≡ 0 = λ w lo hi. words-plain D l i w hi ∙ plain-code D l i w (omega arith) hi ∙ List·getD-eq-default l 0 (omega arith) in
       let sums : check (words D l i) 126 ≡ check (plain D l i) 126 = check-ext (plain D l i) (words D l i) 126 (λ k x. words-plain D l i k x) in
-      record {
-        index = words-plain D l i 0 (omega arith);
-        number = words-plain D l i 1 (omega arith);
-        shallow = omega (arith, s .shallow);
-        depth = depth;
-        count = right-made (blocksOf (length l)) i (words D l i 3) (λ x. omega arith) (omega arith) (λ x. omega arith);
-        full = λ x. omega arith;
-        most = omega arith;
-        some = λ x. omega arith;
-        zeros = all-made (λ w. eqb (words D l i w) 0) (4 + words D l i 3) (122 - words D l i 3) (λ w lo hi. eq-eqb (words D l i w) 0 (beyond w lo (omega arith)));
-        unused = beyond;
-        check-a = words-a D l i ∙ ap (λ (x : Sums). x .a) (sym sums);
-        check-b = words-b D l i ∙ ap (λ (x : Sums). x .b) (sym sums);
-      }
+      sym (sound-last (words D l i) i (blocksOf (length l)) D (words-plain D l i 0 (omega arith)) (words-plain D l i 1 (omega arith)) (omega (arith, s .shallow)) depth
+      (right-made (blocksOf (length l)) i (words D l i 3) (λ x. omega arith) (omega arith) (λ x. omega arith))
+      (all-made (λ w. eqb (words D l i w) 0) (4 + words D l i 3) (122 - words D l i 3)
+      (λ w lo hi. eq-eqb (words D l i w) 0 (words-plain D l i w (omega arith) ∙ plain-code D l i w (omega arith) (omega arith) ∙ List·getD-eq-default l 0 (omega arith)))))
+      ∙ rw (eq-eqb (words D l i 126) (check (words D l i) 126 .a) (words-a D l i ∙ ap (λ (x : Sums). x .a) (sym sums)), eq-eqb (words D l i 127) (check (words D l i) 126 .b) (words-b D l i ∙ ap (λ (x : Sums). x .b) (sym sums)))
 
   file-blocks : blocks (fileOf D l) ≡ blocksOf (length l)
   unfolding blocks
   file-blocks = omega (arith, file-length D l)
 
   pub file-depth : depthOf (fileOf D l) ≡ D
-  unfolding depthOf
-  file-depth = word-file 0 2 (omega arith) (omega arith) ∙ words-right 0 (omega arith) .depth
+  unfolding depthOf plain
+  file-depth = word-file 0 2 (omega arith) (omega arith) ∙ words-plain D l 0 2 (omega arith)
 
   pub file-sound : Sound (fileOf D l)
   unfolding whole
@@ -110,19 +104,14 @@ module _ (D : ℕ) (l : List ℕ) (s : Storable D l) where
     is-whole = rw (le-leb 1 (blocks (fileOf D l)) (omega (arith, file-blocks)), eq-eqb (length (fileOf D l) % 512) 0 (omega (arith, file-length D l)));
     each = λ i h.
         rw (file-blocks, file-depth)
-        (same-words-sound (words D l i) (word (fileOf D l) i) i (blocksOf (length l)) D (λ w k. word-file i w (omega (arith, file-blocks)) k) (words-right i (omega (arith, file-blocks))));
+        (sound-ext (words D l i) (word (fileOf D l) i) i (blocksOf (length l)) D (λ w k. word-file i w (omega (arith, file-blocks)) k) ∙ words-sound i (omega (arith, file-blocks)));
   }
-
-  -- what the last block holds
-  held-last : words D l (blocksOf (length l) - 1) 3 ≡ min 122 (length l - 122 * (blocksOf (length l) - 1))
-  unfolding plain
-  held-last = words-plain D l (blocksOf (length l) - 1) 3 (omega arith)
 
   pub file-codes : codes (fileOf D l) ≡ l
   file-codes = ext-getD 0 (codes (fileOf D l)) l size (λ j h. at j (omega (arith, size)))
     where
       size : length (codes (fileOf D l)) ≡ length l
-      size = codes-length (fileOf D l) ∙ rw file-blocks (omega (arith, word-file (blocksOf (length l) - 1) 3 (omega arith) (omega arith), held-last))
+      size = codes-length (fileOf D l) ∙ rw file-blocks (omega (arith, word-file (blocksOf (length l) - 1) 3 (omega arith) (omega arith), held (blocksOf (length l) - 1)))
 
       at : (j : ℕ) → j < length l → getD (codes (fileOf D l)) j 0 ≡ getD l j 0
       at j h =

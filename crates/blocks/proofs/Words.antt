@@ -1,19 +1,16 @@
 -- Words and their bytes; a block's words carried from one function to another. Assumes nothing.
-use mathlib.Core.Path.{_≡_, refl, sym, ap, subst, _∙_}
-use mathlib.Core.Bool.{true}
+use mathlib.Core.Path.{_≡_, refl, sym, ap, ap₂, subst, _∙_}
+use mathlib.Core.Bool.{Bool, _&&_}
 use mathlib.Core.List.{List}
 use mathlib.Core.Logic.{_⊎_, inl, inr}
 use Prim.Native.Nat.{ℕ, zero, suc, _+_, _-_, _*_, _%_, _^_, _≤_, _<_}
 use native.Mathlib.Omega.{arith}
 use lib.Dec.{eqb}
 use lib.ListN.{getD}
-use borrow.Author.Tests.{eq-eqb}
 use Rattle.cells.proofs.Power.{le-or-lt}
-use Rattle.records.proofs.Fault.{all-made}
-use Rattle.blocks.specs.declared.Sums.{Sums}
-use Rattle.blocks.specs.Block.{word, check, rightCount, soundBlock}
+use Rattle.records.specs.Fault.{allFrom}
+use Rattle.blocks.specs.Block.{word, check, soundBlock}
 use Rattle.blocks.specs.File.{byteOf}
-use Rattle.blocks.proofs.Sound.{RightWords, sound-last}
 
 -- ---- a word and its bytes
 
@@ -65,17 +62,15 @@ unfolding check
 check-small v zero = (omega arith, omega arith)
 check-small v (suc n) = (omega arith, omega arith)
 
--- ---- a sound block's words make any block of the same words sound
+-- ---- a block of the same words is as sound
 
-pub same-words-sound : (v v' : ℕ → ℕ) (i n D : ℕ) → ((w : ℕ) → w < 128 → v' w ≡ v w) → RightWords v i n D → soundBlock v' i n D ≡ true
-same-words-sound v v' i n D f p =
-    let e3 : v' 3 ≡ v 3 = f 3 (omega arith) in
-    let s : check v' 126 ≡ check v 126 = check-ext v v' 126 (λ k h. f k (omega arith)) in
-    let a : v' 126 ≡ check v' 126 .a = f 126 (omega arith) ∙ p .check-a ∙ ap (λ (x : Sums). x .a) (sym s) in
-    let b : v' 127 ≡ check v' 126 .b = f 127 (omega arith) ∙ p .check-b ∙ ap (λ (x : Sums). x .b) (sym s) in
-    let zero-there : (w : ℕ) → 4 + v' 3 ≤ w → w < 4 + v' 3 + (122 - v' 3) → v' w ≡ 0 = λ w lo hi. f w (omega (arith, p .most)) ∙ p .unused w (omega arith) (omega (arith, p .most)) in
-    sym (sound-last v' i n D
-    (f 0 (omega arith) ∙ p .index) (f 1 (omega arith) ∙ p .number) (omega (arith, f 2 (omega arith), p .shallow)) (f 2 (omega arith) ∙ p .depth)
-    (ap (rightCount n i) e3 ∙ p .count)
-    (all-made (λ w. eqb (v' w) 0) (4 + v' 3) (122 - v' 3) (λ w lo hi. eq-eqb (v' w) 0 (zero-there w lo hi))))
-    ∙ rw (eq-eqb (v' 126) (check v' 126 .a) a, eq-eqb (v' 127) (check v' 126 .b) b)
+all-ext : (P Q : ℕ → Bool) (s n : ℕ) → ((w : ℕ) → s ≤ w → w < s + n → P w ≡ Q w) → allFrom P s n ≡ allFrom Q s n
+unfolding allFrom
+all-ext P Q s zero f = refl
+all-ext P Q s (suc n) f = ap₂ _&&_ (f (s + n) (omega arith) (omega arith)) (all-ext P Q s n (λ w lo hi. f w lo (omega arith)))
+
+pub sound-ext : (v v' : ℕ → ℕ) (i n D : ℕ) → ((w : ℕ) → w < 128 → v' w ≡ v w) → soundBlock v' i n D ≡ soundBlock v i n D
+unfolding soundBlock
+sound-ext v v' i n D f =
+    let zeros = all-ext (λ w. eqb (v' w) 0) (λ w. eqb (v w) 0) (4 + v 3) (122 - v 3) (λ w lo hi. ap (λ (x : ℕ). eqb x 0) (f w (omega arith))) in
+    rw (f 0 (omega arith), f 1 (omega arith), f 2 (omega arith), f 3 (omega arith), zeros, f 126 (omega arith), f 127 (omega arith), check-ext v v' 126 (λ k h. f k (omega arith)))
