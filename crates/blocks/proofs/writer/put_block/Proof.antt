@@ -4,7 +4,7 @@ use mathlib.Core.List.{List}
 use Prim.Native.Nat.{ℕ, _+_, _-_, _*_, _≤_, _<_}
 use native.Mathlib.Omega.{arith}
 use borrow.Author.Needs.{needs}
-use lib.ListN.{length, length-set}
+use lib.ListN.{length}
 use Rattle.blocks.specs.Block.{blockBytes, check}
 use Rattle.blocks.specs.declared.Sums.{Sums}
 use Rattle.blocks.specs.File.{plain, words}
@@ -43,7 +43,7 @@ loop-again c =
     let w = h .loop .w in
     let l = h .loop .inv in (
       search needs,
-      ap length (p .store-word .ensures) ∙ simp length-set (l .1),
+      search needs,
       c .took .ensures _ w (l .2) (x .plain-word .ensures),
       reached-more (a .depth) (a .list .now) (a .i) w (x .plain-word .result) _ _ _ (l .3) (omega arith) (x .plain-word .ensures ∙ sym (words-plain (a .depth) (a .list .now) (a .i) w (x .before .loop-test .taken)))
           (p .store-word .ensures),
@@ -75,9 +75,6 @@ module _ (c : tie.After-store-word2 Inv-loop μ-loop) where
       reached-more (a .depth) (a .list .now) (a .i) 126 (e .before .loop .sums .a) _ (e .before .loop .bytes) _ (subst (λ (w : ℕ). Reached (a .depth) (a .list .now) (a .i) (a .bytes .now) (e .before .loop .bytes) w) (all e) (e .before .loop .inv .3)) (omega arith)
       (ap (λ (x : Sums). x .a) (is-sums e) ∙ sym (words-a (a .depth) (a .list .now) (a .i))) (c .store-word2 .ensures)
 
-  kept : length (c .store-word2 .last .0) ≡ length (s e .args .bytes .now)
-  kept = ap length (c .store-word2 .ensures) ∙ simp length-set (e .before .loop .inv .1)
-
 returns : tie.Need-returns Inv-loop μ-loop
 returns c =
     λ o h.
@@ -96,13 +93,13 @@ put-block-spec =
     μ-loop
     (λ c κs. search needs)
     loop-holds
-    (λ c κs. let s = c .before .before .before .before .before in (s .pre .0, c .loop-test .taken))
-    (λ c κs. let s = c .before .before .before .before .before .before .before in (omega (arith, s .pre .0 .inside, s .pre .1, c .before .before .before .loop .inv .1), omega arith))
+    (λ c κs. search needs)
+    (λ c κs. search needs)
     (λ c κs. search needs)
     (λ c. search needs)
     (λ c. search needs)
     loop-again
-    (λ c κs. let l = c .before in (omega (arith, s l .pre .0 .inside, s l .pre .1, l .before .loop .inv .1), omega arith))
-    (λ c κs. let q = c .before .before .before in (omega (arith, s (e q) .pre .0 .inside, s (e q) .pre .1, kept q), omega arith))
-    (λ c. let b = c .before .before in ap length (b .store-word3 .ensures) ∙ simp length-set (kept (b .before .before .before .before)))
+    (λ c κs. search needs)
+    (λ c κs. search needs)
+    (λ c. search needs)
     returns)

@@ -33,9 +33,6 @@ returns t c =
     let i = p .before .before in
     put-as (sym (digits-last f (i .before .before .args .n) (i .if1 .taken))) (p .put .ensures)
 
-put-decimal-requires : (t : ℕ) → lts.Need-put-decimal-requires (calls t) (here t) put-decimal.Post
-put-decimal-requires t c κs = let s = c .before .before .before in (omega (arith, s .pre .0, c .before .if1 .left), s .pre .1)
-
 -- the number without its last digit has 19 digits at most
 put-requires-2 : (t : ℕ) → lts.Need-put-requires-2 (calls t) (here t) put-decimal.Post
 put-requires-2 t c κs =
@@ -66,7 +63,7 @@ pub +put-decimal-spec : {M : Type 1} → statement M
     (λ c κs. let s = c .before .before .before in omega (arith, s .pre .1))
     (λ c. search needs)
     (returns t)
-    (put-decimal-requires t)
+    (λ c κs. search needs)
     (λ c. omega arith)
     (λ c. omega arith)
     (put-requires-2 t)
