@@ -1,6 +1,7 @@
 -- For each public call of this crate an answer that fits its definition at a named input, and one that does not; and document 01's stored examples, computed.
 -- Assumes nothing.
 use mathlib.Core.Path.{_≡_, refl, sym, ap}
+use mathlib.Core.Bool.{true}
 use mathlib.Core.Logic.{inl, inr}
 use mathlib.Core.List.{List, [], _∷_, _++_}
 use Prim.Native.Nat.{ℕ, _^_}
@@ -15,12 +16,13 @@ use Rattle.records.specs.Count.{count}
 use Rattle.records.proofs.First.{good-passes}
 use Rattle.records.proofs.CallLaws.{checks}
 use Rattle.records.proofs.Instances.{check-holds}
-use Rattle.blocks.specs.Block.{check, blocks, whole}
+use Rattle.blocks.specs.Block.{check, blocks, whole, depthOf, codes}
+use Rattle.blocks.specs.Inner.{Sound}
 use Rattle.blocks.specs.File.{plain, fileOf}
 use Rattle.blocks.specs.Calls.{BlockCheckOf, StoredVolumeOf, ReadOf, WriteOf}
 use Rattle.blocks.specs.declared.Reading.{Reading}
 use Rattle.blocks.proofs.Sound.{sound-passes}
-use Rattle.blocks.proofs.RoundTrip.{Storable, good-storable, file-sound, file-depth, file-codes}
+use Rattle.blocks.proofs.RoundTrip.{file-sound, file-depth, file-codes}
 use Rattle.blocks.proofs.CallLaws.{one-check-blocks, one-stored-volume, one-read, one-write}
 use Rattle.blocks.proofs.Theorems.{writes-good, reads-file}
 
@@ -39,14 +41,21 @@ one-check = refl
 abbrev one : List ℕ
 one = 559 ∷ []
 
-good : Good 3 one
+-- it is good, and its file sound
+pub good : Good 3 one
 good = opening-known (checks 3 one) (given 1) check-holds refl .good
 
-storable : Storable 3 one
-storable = good-storable 3 one (omega arith) good
+pub one-sound : Sound (fileOf 3 one)
+one-sound = file-sound 3 one (omega arith) good
+
+pub one-depth : depthOf (fileOf 3 one) ≡ 3
+one-depth = file-depth 3 one (omega arith) good
+
+pub one-codes : codes (fileOf 3 one) ≡ one
+one-codes = file-codes 3 one (omega arith) good
 
 pub block-check-holds : BlockCheckOf (fileOf 3 one) (given 1)
-block-check-holds = inr (sound-passes (fileOf 3 one) (file-sound 3 one storable), ap (λ (l : List ℕ). given (length l)) (sym (file-codes 3 one storable)))
+block-check-holds = inr (sound-passes (fileOf 3 one) one-sound, ap (λ (l : List ℕ). given (length l)) (sym one-codes))
 
 -- no byte at all: 9, with no whole block
 pub block-check-refuses : BlockCheckOf [] (answer 9 0 0)
@@ -62,7 +71,7 @@ one-voxel = refl
 
 pub stored-volume-holds : StoredVolumeOf (fileOf 3 one) (given 1)
 stored-volume-holds =
-    inr (sound-passes (fileOf 3 one) (file-sound 3 one storable), rw (file-depth 3 one storable, file-codes 3 one storable) (inr (good-passes 3 one 1 good, ap given (sym one-voxel))))
+    inr (sound-passes (fileOf 3 one) one-sound, rw (one-depth, one-codes) (inr (good-passes 3 one 1 good, ap given (sym one-voxel))))
 
 pub stored-volume-fails : StoredVolumeOf (fileOf 3 one) (given 512) → ⊥
 stored-volume-fails h = let e : _≡_ {A = ℕ} 512 1 = ap (λ (r : Answer). r .place) (one-stored-volume (fileOf 3 one) _ _ h stored-volume-holds) in omega arith

@@ -26,25 +26,6 @@ use Rattle.blocks.proofs.Files.{plain-code, words-plain, words-a, words
 use Rattle.blocks.proofs.Sound.{RightWords, sound-last, codes-length, codes-at, some-block, all-blocks, right-words}
 use Rattle.blocks.proofs.Words.{word-of-bytes, bytes-of-word, each-word, check-ext, check-small, sound-ext}
 
--- ---- a list that blocks can hold
-
-pub record Storable (D : ℕ) (l : List ℕ) : Type 0 where
-  pub shallow : D ≤ deepest
-  pub small : (k : ℕ) → getD l k 0 < 2 ^ 32
-  pub few : blocksOf (length l) < 2 ^ 32
-
-pub good-storable : (D : ℕ) (l : List ℕ) → D ≤ deepest → Good D l → Storable D l
-good-storable D l h g =
-    record {
-      shallow = h;
-      small = λ k. ⊎-elim (λ (x : length l ≤ k). omega (arith, List·getD-eq-default l 0 x)) (λ (x : k < length l). code-small k x) (le-or-lt (length l) k);
-      few = omega (arith, few-leaves D l g, pow8-small D h);
-    }
-  where
-    code-small : (k : ℕ) → k < length l → getD l k 0 < 2 ^ 32
-    code-small k x =
-        omega (arith, proper-bounds D (getD l k 0) (member D 0 l (getD l k 0) (g .ordered) (member-at l k x) .0), pow8-mono {i = level D (getD l k 0)} {j = deepest} (omega (arith, level-le D (getD l k 0))))
-
 -- ---- from the list to the file
 
 right-made : (n i k : ℕ) → (i + 1 < n → k ≡ 122) → k ≤ 122 → (k ≡ 0 → n ≡ 1) → rightCount n i k ≡ true
@@ -55,15 +36,25 @@ right-made n i k a b c = ⊎-elim (λ (x : n ≤ i + 1). last x (le-or-lt 1 k)) 
     last x (inl y) = rw (rightCount, le-ltb (i + 1) n x, le-leb k 122 b, le-leb 1 k y)
     last x (inr y) = rw (rightCount, le-ltb (i + 1) n x, le-leb k 122 b, lt-leb 1 k y, eq-eqb n 1 (c (omega arith)))
 
-module _ (D : ℕ) (l : List ℕ) (s : Storable D l) where
+module _ (D : ℕ) (l : List ℕ) (shallow : D ≤ deepest) (g : Good D l) where
+  few : blocksOf (length l) < 2 ^ 32
+  few = omega (arith, few-leaves D l g, pow8-small D shallow)
+
+  code-small : (k : ℕ) → getD l k 0 < 2 ^ 32
+  code-small k = ⊎-elim (λ (x : length l ≤ k). omega (arith, List·getD-eq-default l 0 x)) (λ (x : k < length l). here x) (le-or-lt (length l) k)
+    where
+      here : k < length l → getD l k 0 < 2 ^ 32
+      here x =
+          omega (arith, proper-bounds D (getD l k 0) (member D 0 l (getD l k 0) (g .ordered) (member-at l k x) .0), pow8-mono {i = level D (getD l k 0)} {j = deepest} (omega (arith, level-le D (getD l k 0))))
+
   plain-small : (i w : ℕ) → i < blocksOf (length l) → w < 126 → plain D l i w < 2 ^ 32
   unfolding plain
-  plain-small i zero h k = omega (arith, s .few)
-  plain-small i (suc zero) h k = s .few
-  plain-small i (suc (suc zero)) h k = omega (arith, s .shallow)
+  plain-small i zero h k = omega (arith, few)
+  plain-small i (suc zero) h k = few
+  plain-small i (suc (suc zero)) h k = omega (arith, shallow)
   plain-small i (suc (suc (suc zero))) h k = omega arith
   plain-small i (suc (suc (suc (suc w)))) h k =
-      let u : ℕ = suc (suc (suc (suc w))) in omega (arith, plain-code D l i u (omega arith) k, s .small (122 * i + (u - 4)))
+      let u : ℕ = suc (suc (suc (suc w))) in omega (arith, plain-code D l i u (omega arith) k, code-small (122 * i + (u - 4)))
 
   words-small : (i : ℕ) → i < blocksOf (length l) → (w : ℕ) → w < 128 → words D l i w < 2 ^ 32
   words-small i h =
@@ -84,7 +75,7 @@ module _ (D : ℕ) (l : List ℕ) (s : Storable D l) where
       let n = held i in
       let depth : words D l i 2 ≡ D = words-plain D l i 2 (omega arith) in
       let sums : check (words D l i) 126 ≡ check (plain D l i) 126 = check-ext (plain D l i) (words D l i) 126 (λ k x. words-plain D l i k x) in
-      sym (sound-last (words D l i) i (blocksOf (length l)) D (words-plain D l i 0 (omega arith)) (words-plain D l i 1 (omega arith)) (omega (arith, s .shallow)) depth
+      sym (sound-last (words D l i) i (blocksOf (length l)) D (words-plain D l i 0 (omega arith)) (words-plain D l i 1 (omega arith)) (omega (arith, shallow)) depth
       (right-made (blocksOf (length l)) i (words D l i 3) (λ x. omega arith) (omega arith) (λ x. omega arith))
       (all-made (λ w. eqb (words D l i w) 0) (4 + words D l i 3) (122 - words D l i 3)
       (λ w lo hi. eq-eqb (words D l i w) 0 (words-plain D l i w (omega arith) ∙ plain-code D l i w (omega arith) (omega arith) ∙ List·getD-eq-default l 0 (omega arith)))))

@@ -21,7 +21,7 @@ use Rattle.blocks.specs.Inner.{Sound}
 use Rattle.blocks.specs.declared.Reading.{Reading}
 use Rattle.blocks.proofs.Sound.{shallow-file, unsound-numbered, sound-passes, not-unsound}
 use Rattle.blocks.proofs.Files.{file-length}
-use Rattle.blocks.proofs.RoundTrip.{good-storable, file-sound, file-depth, file-codes, same-file}
+use Rattle.blocks.proofs.RoundTrip.{file-sound, file-depth, file-codes, same-file}
 use Rattle.blocks.proofs.CallLaws.{one-read, one-write}
 
 -- ---- what success says
@@ -80,8 +80,7 @@ writes-good D l o h g room =
 
 pub reads-file : (D : ℕ) (l o : List ℕ) → D ≤ deepest → Good D l → length l ≤ length o → ReadOf (fileOf D l) o (record { answer = given (length l); depth = D }) (stands l o)
 reads-file D l o h g room =
-    let s = good-storable D l h g in
-    inr (sound-passes (fileOf D l) (file-sound D l s), rw (file-depth D l s, file-codes D l s) (inr (good-passes D l 1 g, inr (passes (λ x. omega arith), refl))))
+    inr (sound-passes (fileOf D l) (file-sound D l h g), rw (file-depth D l h g, file-codes D l h g) (inr (good-passes D l 1 g, inr (passes (λ x. omega arith), refl))))
 
 pub writes-codes : (b o : List ℕ) → Sound b → ((k : ℕ) → getD b k 0 < 256) → Good (depthOf b) (codes b) → length b ≤ length o → WriteOf (depthOf b) (codes b) o (given (length b)) (stands b o)
 writes-codes b o s small g room =

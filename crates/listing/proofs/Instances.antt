@@ -5,16 +5,13 @@ use mathlib.Core.List.{List, [], _∷_}
 use Prim.Native.Nat.{ℕ}
 use native.Mathlib.Omega.{arith}
 use lib.ListN.{getD}
-use Rattle.cells.specs.Answer.{given}
 use Rattle.cells.proofs.Bools.{clash}
 use Rattle.cells.proofs.Decisions.{passes}
-use Rattle.records.specs.Record.{Good}
 use Rattle.records.specs.Fault.{firstFrom}
-use Rattle.records.proofs.CallLaws.{checked, no-fault}
-use Rattle.records.proofs.Instances.{check-holds}
+use Rattle.records.proofs.CallLaws.{no-fault}
 use Rattle.blocks.specs.Block.{blocks, whole, sound, wrongAt}
 use Rattle.blocks.specs.File.{fileOf}
-use Rattle.blocks.proofs.RoundTrip.{Storable, good-storable, file-sound, file-depth, file-codes}
+use Rattle.blocks.proofs.Instances.{good, one-sound, one-depth, one-codes}
 use Rattle.text.specs.Text.{digits, refusedText}
 use Rattle.text.proofs.Instances.{printed, text-is}
 use Rattle.listing.specs.Listing.{Printed}
@@ -23,16 +20,9 @@ use Rattle.listing.proofs.Pages.{one-printed}
 abbrev one : List ℕ
 one = 559 ∷ []
 
-good : Good 3 one
-good = checked 3 one (given 1) check-holds refl .good
-
-storable : Storable 3 one
-storable = good-storable 3 one (omega arith) good
-
 -- document 01's two lines
 pub listing-holds : Printed (fileOf 3 one) printed
-listing-holds =
-    rw (file-depth 3 one storable, file-codes 3 one storable) (inr (passes (clash (file-sound 3 one storable)), inr (passes (no-fault 3 one good), sym text-is)))
+listing-holds = rw (one-depth, one-codes) (inr (passes (clash one-sound), inr (passes (no-fault 3 one good), sym text-is)))
 
 -- no byte at all: "refused 9 0"
 pub listing-refuses : Printed [] (refusedText 9 0)
