@@ -7,6 +7,7 @@ use lib.IntN.{ℤ, pos, negsuc}
 use Rattle.cells.specs.declared.Answer.{Answer}
 use Rattle.cells.specs.Answer.{answer, given}
 use Rattle.cells.specs.Neighbour.{NeighbourOf}
+use Rattle.cells.specs.Place.{axes}
 use Rattle.cells.proofs.Decisions.{One}
 use Rattle.cells.proofs.NeighbourLaws.{one-neighbour-of}
 use Rattle.cells.proofs.Instances.{neighbour-holds}
@@ -19,8 +20,8 @@ use Rattle.cab.specs.Packed.{packed, Packed}
 pub one-packed : (F : Answer → Type 0) → One F → One (Packed F)
 one-packed F one v w (a, p, e) (b, q, f) = e ∙ ap packed (one a b p q) ∙ sym f
 
-pub one-cab-neighbour : (D c : ℕ) (dx dy dz : ℤ) → One (Packed (NeighbourOf D c dx dy dz))
-one-cab-neighbour D c dx dy dz = one-packed (NeighbourOf D c dx dy dz) (one-neighbour-of D c dx dy dz)
+pub one-cab-neighbour : (D c : ℕ) (d : ℕ → ℤ) → One (Packed (NeighbourOf D c d))
+one-cab-neighbour D c d = one-packed (NeighbourOf D c d) (one-neighbour-of D c d)
 
 pub one-cab-check-blocks : (b : List ℕ) → One (Packed (BlockCheckOf b))
 one-cab-check-blocks b = one-packed (BlockCheckOf b) (one-check-blocks b)
@@ -31,11 +32,11 @@ one-cab-stored-volume b = one-packed (StoredVolumeOf b) (one-stored-volume b)
 -- ---- instances
 
 -- r742 with steps (-1, +1, +1) gives r675
-pub cab-neighbour-holds : Packed (NeighbourOf 3 994 (negsuc 0) (pos 1) (pos 1)) 957
+pub cab-neighbour-holds : Packed (NeighbourOf 3 994 (axes (negsuc 0) (pos 1) (pos 1))) 957
 cab-neighbour-holds = (given 957, neighbour-holds, refl)
 
-pub cab-neighbour-fails : Packed (NeighbourOf 3 994 (negsuc 0) (pos 1) (pos 1)) 956 → ⊥
-cab-neighbour-fails h = let e : _≡_ {A = ℕ} 956 957 = one-cab-neighbour 3 994 (negsuc 0) (pos 1) (pos 1) _ _ h cab-neighbour-holds in omega arith
+pub cab-neighbour-fails : Packed (NeighbourOf 3 994 (axes (negsuc 0) (pos 1) (pos 1))) 956 → ⊥
+cab-neighbour-fails h = let e : _≡_ {A = ℕ} 956 957 = one-cab-neighbour 3 994 (axes (negsuc 0) (pos 1) (pos 1)) _ _ h cab-neighbour-holds in omega arith
 
 -- depth 3, [r057] stored: one leaf, one voxel; no byte at all: 9 and no block
 pub cab-check-blocks-holds : Packed (BlockCheckOf (fileOf 3 (559 ∷ []))) 1

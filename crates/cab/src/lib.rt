@@ -2,10 +2,11 @@
 use blocks::check_blocks;
 use blocks::stored_volume;
 use cells::Answer;
-use cells::neighbours::neighbour;
+use cells::neighbour;
 ghost use mathlib.Core.Path.{_≡_};
 ghost use Rattle.blocks.specs.Calls.{BlockCheckOf, StoredVolumeOf};
 ghost use Rattle.cells.specs.Neighbour.{NeighbourOf};
+ghost use Rattle.cells.specs.Place.{axes};
 ghost use Rattle.cab.specs.Packed.{packed, Packed};
 
 // An answer as one number.
@@ -23,7 +24,7 @@ fn pack(a: Answer) -> u64
 // The neighbour address.
 #[no_mangle]
 pub extern "C" fn cab_neighbour(depth: u32, code: u32, dx: i32, dy: i32, dz: i32) -> u64
-    ensures { λ r. ⌜ Packed (NeighbourOf depth code dx dy dz) r ⌝ }
+    ensures { λ r. ⌜ Packed (NeighbourOf depth code (axes dx dy dz)) r ⌝ }
 {
     pack(neighbour(depth, code, dx, dy, dz))
 }

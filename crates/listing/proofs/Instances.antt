@@ -5,12 +5,10 @@ use mathlib.Core.List.{List, [], _∷_}
 use Prim.Native.Nat.{ℕ}
 use native.Mathlib.Omega.{arith}
 use lib.ListN.{getD}
-use Rattle.cells.proofs.Bools.{clash}
-use Rattle.cells.proofs.Decisions.{passes}
-use Rattle.records.specs.Fault.{firstFrom}
-use Rattle.records.proofs.CallLaws.{no-fault}
-use Rattle.blocks.specs.Block.{blocks, whole, sound, wrongAt}
+use Rattle.records.proofs.First.{good-passes}
+use Rattle.blocks.specs.Block.{blocks, whole}
 use Rattle.blocks.specs.File.{fileOf}
+use Rattle.blocks.proofs.Sound.{sound-passes}
 use Rattle.blocks.proofs.Instances.{good, one-sound, one-depth, one-codes}
 use Rattle.text.specs.Text.{digits, refusedText}
 use Rattle.text.proofs.Instances.{printed, text-is}
@@ -22,12 +20,12 @@ one = 559 ∷ []
 
 -- document 01's two lines
 pub listing-holds : Printed (fileOf 3 one) printed
-listing-holds = rw (one-depth, one-codes) (inr (passes (clash one-sound), inr (passes (no-fault 3 one good), sym text-is)))
+listing-holds = inr (sound-passes (fileOf 3 one) one-sound, rw (one-depth, one-codes) (inr (good-passes 3 one 1 good, sym text-is)))
 
 -- no byte at all: "refused 9 0"
 pub listing-refuses : Printed [] (refusedText 9 0)
-unfolding blocks whole sound wrongAt firstFrom
-listing-refuses = inl (_, (refl, refl), refl)
+unfolding blocks whole
+listing-refuses = inl (_, inl (refl, refl), refl)
 
 pub listing-fails : Printed [] [] → ⊥
 unfolding digits refusedText

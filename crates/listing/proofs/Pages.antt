@@ -1,6 +1,5 @@
 -- Why the listing's buffers always suffice, and what `read`, `list_text` and `refused_text` then give; and no second text fits a file. Assumes nothing.
 use mathlib.Core.Path.{_≡_, refl, ap}
-use mathlib.Core.Bool.{true}
 use mathlib.Core.List.{List, [], _∷_}
 use mathlib.Core.Logic.{inl, inr}
 use Prim.Native.Nat.{ℕ, _+_, _*_, _^_, _≤_}
@@ -8,17 +7,17 @@ use native.Mathlib.Omega.{arith}
 use lib.ListN.{length, drop, length-append}
 use Rattle.cells.specs.Answer.{given, deepest}
 use Rattle.cells.specs.declared.Answer.{Answer}
-use Rattle.cells.proofs.Decisions.{One, one-equal, one-refuses, one-decided}
+use Rattle.cells.proofs.Decisions.{One, one-equal, one-refuses-first, one-decided}
 use Rattle.records.specs.Record.{black, Good}
 use Rattle.records.specs.Count.{count}
 use Rattle.records.specs.Fault.{Faulty}
 use Rattle.records.specs.Writing.{stands}
 use Rattle.records.proofs.Writing.{writes-fitting, list-fitting}
-use Rattle.blocks.specs.Block.{sound, depthOf, codes}
+use Rattle.blocks.specs.Block.{depthOf, codes}
 use Rattle.blocks.specs.Calls.{Unsound, ReadOf}
+use Rattle.blocks.specs.Inner.{Sound}
 use Rattle.blocks.specs.declared.Reading.{Reading}
-use Rattle.blocks.proofs.Sound.{all-blocks, codes-most}
-use Rattle.blocks.proofs.CallLaws.{not-unsound}
+use Rattle.blocks.proofs.Sound.{all-blocks, codes-most, one-unsound, not-unsound}
 use Rattle.text.specs.Text.{pathLines, textOf, TextOf, refusedText, RefusedOf}
 use Rattle.text.specs.Inner.{headLine}
 use Rattle.text.proofs.CallLaws.{one-text, one-refused}
@@ -27,7 +26,7 @@ use Rattle.listing.specs.Listing.{longest, mostCodes, refusedLine, Print
 
 -- ---- room
 
-pub few-codes : (b : List ℕ) → sound b ≡ true → length b ≤ longest → length (codes b) ≤ mostCodes
+pub few-codes : (b : List ℕ) → Sound b → length b ≤ longest → length (codes b) ≤ mostCodes
 few-codes b s h = omega (arith, codes-most b s, all-blocks b s)
 
 pub text-length : (D : ℕ) (l : List ℕ) → D ≤ deepest → length (textOf D l) ≤ 83 + 12 * length l
@@ -42,7 +41,7 @@ pub refused-printed : (b o : List ℕ) (r : Reading) (o' : List ℕ) → ReadOf 
 refused-printed b o r o' (inl (a, t, e)) some h room = inl (a, t, ap (λ (x : Reading × List ℕ). refusedLine (x .0 .answer)) e)
 refused-printed b o r o' (inr (p, inl (a, t, e))) some h room = inr (p, inl (a, t, ap (λ (x : Reading × List ℕ). refusedLine (x .0 .answer)) e))
 refused-printed b o r o' (inr (p, inr (q, inl (a, (short, _), e)))) some h room =
-    absurd (omega (arith, few-codes b (not-unsound (sound b) (λ x. p _ (x, refl))) h))
+    absurd (omega (arith, few-codes b (not-unsound b p) h))
 refused-printed b o r o' (inr (p, inr (q, inr (_, e)))) some h room = absurd (some (ap (λ (x : Reading × List ℕ). x .0 .answer .number) e))
 
 -- what `list_text` and `refused_text` leave, which never lack room
@@ -63,4 +62,4 @@ page-within b o r after p = omega (arith, p .count, ap length (p .written), leng
 -- ---- no second text
 
 pub one-printed : (b : List ℕ) → One (Printed b)
-one-printed b = one-decided refusedLine (Unsound b ∷ Faulty (depthOf b) (codes b) 1 ∷ []) _ (one-refuses, (one-refuses, tt)) one-equal
+one-printed b = one-decided refusedLine (Unsound b ∷ Faulty (depthOf b) (codes b) 1 ∷ []) _ (one-unsound b, (one-refuses-first, tt)) one-equal

@@ -7,12 +7,10 @@ use native.Mathlib.Omega.{arith}
 use borrow.Author.Needs.{needs}
 use lib.ListN.{length, take, drop}
 use lib.Seq.{take-append-seam, length-take-le}
-use Rattle.cells.proofs.Bools.{clash}
-use Rattle.cells.proofs.Decisions.{passes}
-use Rattle.records.proofs.CallLaws.{no-fault}
+use Rattle.records.proofs.First.{good-passes}
 use Rattle.blocks.specs.Block.{depthOf, codes}
 use Rattle.blocks.specs.declared.Reading.{Reading}
-use Rattle.blocks.proofs.Sound.{shallow-file}
+use Rattle.blocks.proofs.Sound.{shallow-file, sound-passes}
 use Rattle.blocks.proofs.Theorems.{ReadSuccess, read-success}
 use Rattle.text.specs.Text.{textOf, TextOf, refusedText}
 use Rattle.listing.specs.Listing.{mostCodes}
@@ -79,7 +77,7 @@ returns-2 c =
     let k = codes (b e) in
     let w : TextOf D k o (l .list-text .result) (l .list-text .last .1 .1 .0) = rw (is-depth e, front e) at (l .list-text .ensures) in
     let h = shallow-file (b e) (file e .is-sound) in
-    page-of (b e) o (textOf D k) (l .list-text .result) _ (inr (passes (clash (file e .is-sound)), inr (passes (no-fault D k (file e .good)), refl)))
+    page-of (b e) o (textOf D k) (l .list-text .result) _ (inr (sound-passes (b e) (file e .is-sound), inr (good-passes D k 1 (file e .good), refl)))
     (text-left D k o (l .list-text .result) _ w h (file e .good) (omega (arith, text-length D k h, few e, s e .pre .2)))
 
 pub page-spec : {M : Type 1} → statement M

@@ -35,8 +35,7 @@ loop-again : tie.Need-loop-again Inv-loop μ-loop
 loop-again c =
     let p = c .before .before in
     let s = start p in
-    let o = p .before .loop in
-    (
+    let o = p .before .loop in (
       omega (arith, p .loop-test .taken),
       c .step .ensures (codes (s .args .bytes .now)) (o .i) (o .inv .1) (codes-at (s .args .bytes .now) (o .i) (there p) ∙ sym (c .before .code-at .ensures)),
     )
