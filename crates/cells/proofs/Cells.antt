@@ -50,7 +50,6 @@ pub record Cell (D c : ℕ) : Type 0 where
   pub depth : k + n ≡ D
   pub code : c ≡ 8 ^ k + i
   pub index : i < 8 ^ k
-  pub level≡ : level D c ≡ k
   pub span≡ : span D c ≡ 8 ^ n
   pub start≡ : start D c ≡ i * 8 ^ n
 
@@ -80,7 +79,6 @@ cell D c e = record {
   depth = omega (arith, level-le D c);
   code = omega (arith, proper-bounds D c e);
   index = omega (arith, proper-bounds D c e);
-  level≡ = refl;
   span≡ = refl;
   start≡ = refl;
 }
@@ -133,14 +131,10 @@ interval D c e =
     let t = cell D c e in
     ap (λ (m : ℕ). m * span D c) (t .code) ∙ rw (t .span≡, t .start≡) (add-mul (8 ^ t .k) (t .i) (8 ^ t .n) ∙ ap (λ (m : ℕ). m + t .i * 8 ^ t .n) (sym (pow8-depth (t .k) (t .n) (t .depth))))
 
--- the level tells the span, and the span the level
+-- the span tells the level
 pub level-of-span : (D c d : ℕ) → span D c ≡ span D d → level D c ≡ level D d
 unfolding span
 level-of-span D c d e = omega (arith, pow8-inj (D - level D c) (D - level D d) e, level-le D c, level-le D d)
-
-pub span-of-level : (D c d : ℕ) → level D c ≡ level D d → span D c ≡ span D d
-unfolding span
-span-of-level D c d e = ap (λ (x : ℕ). 8 ^ (D - x)) e
 
 -- a cell is known by its start and its span
 pub same-cell : (D c d : ℕ) → proper D c ≡ true → proper D d ≡ true → start D c ≡ start D d → span D c ≡ span D d → c ≡ d

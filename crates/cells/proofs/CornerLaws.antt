@@ -34,7 +34,6 @@ code-is D c p = omega (arith, proper-bounds D c p)
 pub record At (D k i : ℕ) : Type 0 where
   pub is-proper : proper D (8 ^ k + i) ≡ true
   pub is-level : level D (8 ^ k + i) ≡ k
-  pub is-side : side D (8 ^ k + i) ≡ 2 ^ (D - k)
   pub is-corner : (b : ℕ) → corner b D (8 ^ k + i) ≡ along b k i * 2 ^ (D - k)
 
 pub cell-at : (D k i : ℕ) → k ≤ D → i < 8 ^ k → At D k i
@@ -45,7 +44,6 @@ cell-at D k i h l =
     record {
       is-proper = t .0;
       is-level = e;
-      is-side = rw e;
       is-corner = λ b. rw (e, add-sub-cancel-left (8 ^ k) i);
     }
 

@@ -56,13 +56,6 @@ pub decided-past : {R : Type 0} (refuse : Answer → R) (F : Test) (Fs : List Te
 decided-past refuse F Fs P r none (inl (a, f, e)) = absurd (none a f)
 decided-past refuse F Fs P r none (inr (_, d)) = d
 
--- a part of what a call leaves
-pub decided-map : {R S : Type 0} (f : R → S) (refuse : Answer → R) (refuse′ : Answer → S) (Fs : List Test) (P : R → Type 0) (Q : S → Type 0) (r : R)
-    → ((a : Answer) → f (refuse a) ≡ refuse′ a) → (P r → Q (f r)) → Decided refuse Fs P r → Decided refuse′ Fs Q (f r)
-decided-map f refuse refuse′ [] P Q r same to d = to d
-decided-map f refuse refuse′ (F ∷ Fs) P Q r same to (inl (a, t, e)) = inl (a, t, ap f e ∙ same a)
-decided-map f refuse refuse′ (F ∷ Fs) P Q r same to (inr (n, d)) = inr (n, decided-map f refuse refuse′ Fs P Q r same to d)
-
 -- what holds of every refusal, and of all that has P, holds
 pub decided-all : {R : Type 0} (refuse : Answer → R) (Fs : List Test) (P Q : R → Type 0) (r : R) → ((a : Answer) → Q (refuse a)) → (P r → Q r) → Decided refuse Fs P r → Q r
 decided-all refuse [] P Q r refused to d = to d

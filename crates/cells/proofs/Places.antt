@@ -103,13 +103,6 @@ along-div b k (suc n) v =
     let half : (2 * along b (k + n) (v / 8) + v % 8 / b % 2) / 2 ≡ along b (k + n) (v / 8) = omega arith in
     rw (add-suc, div-pow 2 n, half, div-pow 8 n) (along-div b k n (v / 8))
 
-pub number-div : (k n x y z : ℕ) → number (k + n) x y z / 8 ^ n ≡ number k (x / 2 ^ n) (y / 2 ^ n) (z / 2 ^ n)
-unfolding number
-number-div k zero x y z = simp (add-zero, pow-zero, div-one)
-number-div k (suc n) x y z =
-    let eighth : (8 * number (k + n) (x / 2) (y / 2) (z / 2) + (x % 2 + 2 * (y % 2) + 4 * (z % 2))) / 8 ≡ number (k + n) (x / 2) (y / 2) (z / 2) = omega arith in
-    rw (add-suc, div-pow 8 n, eighth, div-pow 2 n x, div-pow 2 n y, div-pow 2 n z) (number-div k n (x / 2) (y / 2) (z / 2))
-
 -- ---- the first voxel of a cell of level k, n levels above the voxels
 
 pub along-first : (b k n i : ℕ) → along b (k + n) (i * 8 ^ n) ≡ along b k i * 2 ^ n

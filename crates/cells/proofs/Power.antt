@@ -1,7 +1,7 @@
 -- Powers of eight and of two, by their laws, at a variable exponent; and which of two numbers is the greater. Assumes nothing.
 use mathlib.Core.Path.{_≡_, refl, sym, ap, _∙_}
 use Prim.Native.Nat.{ℕ, zero, suc, _-_, _*_, _/_, _^_, _≤_, _<_}
-use native.Mathlib.Nat.{le-of-eq, le-antisymm, lt-of-not-le, le-of-suc-le-suc, zero-lt-suc, one-le-pow, pow-le-pow-right, pow-suc, pow-succ', mul-comm, mul-suc, mul-mul-mul-comm, add-sub-of-le, div-div-eq-div-mul}
+use native.Mathlib.Nat.{le-of-eq, le-antisymm, lt-of-not-le, le-of-suc-le-suc, zero-lt-suc, one-le-pow, pow-le-pow-right, pow-suc, pow-succ', mul-comm, mul-suc, add-sub-of-le, div-div-eq-div-mul}
 use mathlib.Core.Logic.{_⊎_, inl, inr}
 use native.Mathlib.Decide.{decLe}
 use native.Mathlib.Omega.{arith}
@@ -64,14 +64,3 @@ div-pow b n v = ap (λ (m : ℕ). v / m) (pow-succ' b n) ∙ sym (div-div-eq-div
 pub pow8-bits : (k : ℕ) → 2 ^ (3 * k) ≡ 8 ^ k
 pow8-bits zero = refl
 pow8-bits (suc k) = rw (mul-suc 3 k, pow-add 2 (3 * k) 3, pow8-bits k, pow-suc 8 k)
-
--- a cube of twos
-pub pow8-cube : (n : ℕ) → 2 ^ n * 2 ^ n * 2 ^ n ≡ 8 ^ n
-pow8-cube zero = refl
-pow8-cube (suc n) =
-    let a = 2 ^ n in
-    ap (λ (m : ℕ). m * m * m) (pow-suc 2 n)
-    ∙ ap (λ (m : ℕ). m * (a * 2)) (mul-mul-mul-comm a 2 a 2)
-    ∙ mul-mul-mul-comm (a * a) 4 a 2
-    ∙ ap (λ (m : ℕ). m * 8) (pow8-cube n)
-    ∙ sym (pow-suc 8 n)

@@ -28,11 +28,6 @@ unfolding count
 count-none zero = refl
 count-none (suc n) = omega (arith, count-none n)
 
-pub count-all : (n : ℕ) → count (λ v. true) n ≡ n
-unfolding count
-count-all zero = refl
-count-all (suc n) = omega (arith, count-all n)
-
 bit-join : (a b : Bool) → bit (a || b) + bit (a && b) ≡ bit a + bit b
 bit-join true true = refl
 bit-join true false = refl

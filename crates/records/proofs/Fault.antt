@@ -1,7 +1,7 @@
 -- A list is good just where no index has a fault. Assumes nothing.
 use mathlib.Core.Path.{_≡_, refl, sym, ap, _∙_}
 use mathlib.Core.Bool.{Bool, true, false, _&&_, true≢false, and-false}
-use mathlib.Core.Logic.{_⊎_, inl, inr}
+use mathlib.Core.Logic.{_⊎_, inl, inr, ⊎-elim}
 use mathlib.Core.List.{List, [], _∷_, List·Memᴰ, List·Memᴰ·head, List·Memᴰ·tail, Memᴰ·cast}
 use Prim.Native.Nat.{ℕ, zero, suc, _+_, _-_, _*_, _/_, _%_, _≤_, _<_, zero-le, suc-le-suc}
 use native.Mathlib.Nat.{le-refl, le-of-suc-le-suc, not-suc-le-zero, eq-or-lt-of-le}
@@ -44,6 +44,19 @@ in-order D from [] o i j h k = absurd (not-suc-le-zero k)
 in-order D from (c ∷ l) (p, f, o) i zero h k = absurd (not-suc-le-zero h)
 in-order D from (c ∷ l) (p, f, o) zero (suc j) h k = member D (end D c) l _ o (member-at l j (le-of-suc-le-suc k)) .1
 in-order D from (c ∷ l) (p, f, o) (suc i) (suc j) h k = in-order D (end D c) l o i j (le-of-suc-le-suc h) (le-of-suc-le-suc k)
+
+-- a leaf that ends where another starts stands right before it
+next-to : (D from : ℕ) (l : List ℕ) → Ordered D from l → (a b : ℕ) → a < length l → b < length l → end D (getD l a 0) ≡ start D (getD l b 0) → suc a ≡ b
+next-to D from l o a b ha hb e = go (le-or-lt b a) (le-or-lt (suc (suc a)) b)
+  where
+    go : (b ≤ a) ⊎ (a < b) → (suc (suc a) ≤ b) ⊎ (b < suc (suc a)) → suc a ≡ b
+    go (inl h) k =
+        let u = span-pos D (getD l a 0) in
+        absurd
+        (⊎-elim (λ (z : b ≡ a). omega (arith, ap (λ (n : ℕ). start D (getD l n 0)) z)) (λ (z : b < a). omega (arith, in-order D from l o b a z ha, span-pos D (getD l b 0))) (eq-or-lt-of-le h))
+    go (inr h) (inl k) =
+        absurd (omega (arith, in-order D from l o a (suc a) (le-refl _) (omega arith), in-order D from l o (suc a) b k hb, span-pos D (getD l (suc a) 0)))
+    go (inr h) (inr k) = omega arith
 
 -- ---- eight siblings
 
@@ -94,25 +107,8 @@ module _ (D from : ℕ) (l : List ℕ) (o : Ordered D from l) (p : ℕ) (all : (
   side-by-side a h e (suc j) k =
       let (i, b, f) = index-of (8 * p + suc j) l (all (suc j) k) in
       let (b′, f′) = side-by-side a h e j (omega arith) in
-      next i b f b′ f′ (le-or-lt i (a + j)) (le-or-lt (suc (suc (a + j))) i)
-    where
-      next : (i : ℕ) → i < length l → getD l i 0 ≡ 8 * p + suc j → a + j < length l → getD l (a + j) 0 ≡ 8 * p + j → (i ≤ a + j) ⊎ (a + j < i) → (suc (suc (a + j)) ≤ i) ⊎ (i < suc (suc (a + j)))
-          → (a + suc j < length l) × (getD l (a + suc j) 0 ≡ 8 * p + suc j)
-      next i b f b′ f′ (inl x) y = absurd (go (eq-or-lt-of-le x))
-        where
-          go : (i ≡ a + j) ⊎ (i < a + j) → ⊥
-          go (inl z) = omega (arith, f, f′, ap (λ (n : ℕ). getD l n 0) z)
-          go (inr z) = omega (arith, neighbour j k, rw (f, f′) at (in-order D from l o i (a + j) z b′), span-pos D (8 * p + j), span-pos D (8 * p + suc j))
-      next i b f b′ f′ (inr x) (inl y) =
-          absurd
-          (omega (
-            arith,
-            neighbour j k,
-            rw f′ at (in-order D from l o (a + j) (suc (a + j)) (le-refl _) (omega arith)),
-            rw f at (in-order D from l o (suc (a + j)) i y b),
-            span-pos D (getD l (suc (a + j)) 0),
-          ))
-      next i b f b′ f′ (inr x) (inr y) = (omega arith, ap (λ (z : ℕ). getD l z 0) (omega arith) ∙ f)
+      let next : suc (a + j) ≡ i = next-to D from l o (a + j) i b′ b (rw (f, f′) (sym (neighbour j k))) in
+      (omega arith, ap (λ (x : ℕ). getD l x 0) (omega arith) ∙ f)
 
 -- so where the test fails at each index, the list is condensed
 condensed-of : (D from : ℕ) (l : List ℕ) → Ordered D from l → ((a : ℕ) → a + 7 < length l → eightAt l a ≡ false) → Condensed l

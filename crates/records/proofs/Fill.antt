@@ -201,7 +201,3 @@ is-good D P =
 -- and every good list is the list of its own voxels
 pub good-list-is : (D : ℕ) (P : ℕ → Bool) (l : List ℕ) → Good D l → ((v : ℕ) → v < 8 ^ D → black D l v ≡ P v) → l ≡ goodList D P
 good-list-is D P l g h = one-good-list g (is-good D P) (λ v k. h v k ∙ sym (is-coloured D P v k))
-
--- sets with the same voxels have the same list
-pub goodList-same : (D : ℕ) (P Q : ℕ → Bool) → ((v : ℕ) → v < 8 ^ D → P v ≡ Q v) → goodList D P ≡ goodList D Q
-goodList-same D P Q h = good-list-is D Q (goodList D P) (is-good D P) (λ v k. is-coloured D P v k ∙ h v k)

@@ -1,9 +1,9 @@
 -- The leaves of an ordered list that meet a cell stand together, and the part of them is known by its leaves and, if it has none, by its place. Assumes nothing.
 use mathlib.Core.Path.{_≡_}
-use mathlib.Core.Logic.{_⊎_, inl, inr, _↔_}
+use mathlib.Core.Logic.{_⊎_, inl, inr, _↔_, ⊎-elim}
 use mathlib.Core.List.{List}
 use Prim.Native.Nat.{ℕ, _+_, _-_, _≤_, _<_, max}
-use native.Mathlib.Nat.{le-refl, le-antisymm}
+use native.Mathlib.Nat.{le-refl, le-antisymm, eq-or-lt-of-le}
 use native.Mathlib.Omega.{arith}
 use lib.ListN.{length, getD}
 use Rattle.cells.specs.Cell.{start, end}
@@ -29,19 +29,16 @@ meets-iff D c m = (to, back)
 
 -- in an ordered list the starts and the ends rise
 module _ (D : ℕ) (l : List ℕ) (o : Ordered D 0 l) (i j : ℕ) (h : i ≤ j) (k : j < length l) where
+  rises : (start D (getD l i 0) ≤ start D (getD l j 0)) × (end D (getD l i 0) ≤ end D (getD l j 0))
+  rises =
+      ⊎-elim (λ (e : i ≡ j). rw e (le-refl _, le-refl _)) (λ (x : i < j). omega (arith, in-order D 0 l o i j x k, span-pos D (getD l i 0), span-pos D (getD l j 0)))
+      (eq-or-lt-of-le h)
+
   pub starts-rise : start D (getD l i 0) ≤ start D (getD l j 0)
-  starts-rise = go (le-or-lt j i)
-    where
-      go : (j ≤ i) ⊎ (i < j) → start D (getD l i 0) ≤ start D (getD l j 0)
-      go (inl x) = rw (le-antisymm h x) (le-refl _)
-      go (inr x) = omega (arith, in-order D 0 l o i j x k, span-pos D (getD l i 0))
+  starts-rise = rises .0
 
   pub ends-rise : end D (getD l i 0) ≤ end D (getD l j 0)
-  ends-rise = go (le-or-lt j i)
-    where
-      go : (j ≤ i) ⊎ (i < j) → end D (getD l i 0) ≤ end D (getD l j 0)
-      go (inl x) = rw (le-antisymm h x) (le-refl _)
-      go (inr x) = omega (arith, in-order D 0 l o i j x k, span-pos D (getD l j 0))
+  ends-rise = rises .1
 
 -- so a leaf between two leaves that meet a cell meets it too
 pub together : (D : ℕ) (l : List ℕ) → Ordered D 0 l → (m i j k : ℕ) → i ≤ j → j ≤ k → k < length l → Meets D (getD l i 0) m → Meets D (getD l k 0) m → Meets D (getD l j 0) m
@@ -73,11 +70,9 @@ module _ (D : ℕ) (l : List ℕ) (m at n at′ n′ : ℕ) (p : MetPart D l m a
 
   -- where the one has none, the other begins no later
   no-later : n ≡ 0 → n′ ≡ 0 → at ≤ at′
-  no-later z z′ = go (le-or-lt at at′)
-    where
-      go : (at ≤ at′) ⊎ (at′ < at) → at ≤ at′
-      go (inl h) = h
-      go (inr h) = let k : at′ < length l = omega (arith, p .within) in let x = q .inserted z′ at′ k .1 (p .inserted z at′ k .0 h) in absurd (omega arith)
+  no-later z z′ =
+      ⊎-elim (λ h. h) (λ (h : at′ < at). let k : at′ < length l = omega (arith, p .within) in let x = q .inserted z′ at′ k .1 (p .inserted z at′ k .0 h) in absurd (omega arith))
+      (le-or-lt at at′)
 
 pub one-part : (D : ℕ) (l : List ℕ) (m at n at′ n′ : ℕ) → MetPart D l m at n → MetPart D l m at′ n′ → (at ≡ at′) × (n ≡ n′)
 one-part D l m at n at′ n′ p q = go (le-or-lt n 0) (le-or-lt n′ 0)

@@ -1,13 +1,13 @@
 -- What the search in an ordered list finds: the leaf that may hold a voxel, and the leaves that meet a cell. Assumes nothing.
 use mathlib.Core.Path.{_≡_, refl, sym, _∙_}
 use mathlib.Core.Bool.{Bool, true, false}
-use mathlib.Core.Logic.{_⊎_, inl, inr}
+use mathlib.Core.Logic.{_⊎_, inl, inr, ⊎-elim}
 use mathlib.Core.List.{List}
 use Prim.Native.Nat.{ℕ, suc, _-_, _≤_, _<_, zero-le}
 use native.Mathlib.Omega.{arith}
 use lib.Dec.{ltb}
 use lib.ListN.{length, getD}
-use borrow.Author.Tests.{ltb-true, lt-ltb, le-ltb}
+use borrow.Author.Tests.{ltb-true, ltb-false, lt-ltb, le-ltb}
 use Rattle.cells.specs.Cell.{proper, start, end}
 use Rattle.records.specs.Record.{black, Ordered}
 use Rattle.records.specs.Inner.{Starts, reaches}
@@ -42,22 +42,16 @@ unfolding reaches
 reaches-true D l at v e = let t = both-true (ltb 0 at) (ltb v (end D (getD l (at - 1) 0))) e in (ltb-true 0 at (t .0), ltb-true v _ (t .1))
 
 reaches-false : (D : ℕ) (l : List ℕ) (at v : ℕ) → reaches D l at v ≡ false → 0 < at → end D (getD l (at - 1) 0) ≤ v
-reaches-false D l at v e h = go (le-or-lt (end D (getD l (at - 1) 0)) v)
-  where
-    go : (end D (getD l (at - 1) 0) ≤ v) ⊎ (v < end D (getD l (at - 1) 0)) → end D (getD l (at - 1) 0) ≤ v
-    go (inl k) = k
-    go (inr k) = absurd (clash (reaches-is D l at v h ∙ lt-ltb v _ k) e)
+reaches-false D l at v e h = ltb-false v _ (sym (reaches-is D l at v h) ∙ e)
 
 module _ (D : ℕ) (l : List ℕ) (o : Ordered D 0 l) where
   -- ---- a voxel is black just where the last leaf that starts at it or before it ends after it
 
   -- a leaf that holds v is that one
   the-last : (v at i : ℕ) → Starts D l (suc v) 0 (length l) at → i < length l → start D (getD l i 0) ≤ v → v < end D (getD l i 0) → reaches D l at v ≡ true
-  the-last v at i s h lo hi = go (le-or-lt at i)
-    where
-      go : (at ≤ i) ⊎ (i < at) → reaches D l at v ≡ true
-      go (inl k) = absurd (omega (arith, s .above i k h))
-      go (inr k) = reaches-is D l at v (omega arith) ∙ lt-ltb v _ (omega (arith, ends-rise D l o i (at - 1) (omega arith) (omega (arith, s .high))))
+  the-last v at i s h lo hi =
+      let k : i < at = ⊎-elim (λ (k : at ≤ i). absurd (omega (arith, s .above i k h))) (λ k. k) (le-or-lt at i) in
+      reaches-is D l at v (omega arith) ∙ lt-ltb v _ (omega (arith, ends-rise D l o i (at - 1) (omega arith) (omega (arith, s .high))))
 
   pub black-last : (v at : ℕ) → Starts D l (suc v) 0 (length l) at → reaches D l at v ≡ black D l v
   black-last v at s = go (reaches D l at v) refl
@@ -88,11 +82,7 @@ module _ (D : ℕ) (l : List ℕ) (o : Ordered D 0 l) where
         (λ i h. omega (arith, ends-rise D l o i (at - 1) (omega arith) (omega arith), reaches-false D l at (start D m) r (omega arith)))
         (λ i a h. t .above i (omega arith) h)
         (λ i a b. inside i a (omega arith))
-        (λ z i h. (λ k. s .below i zero-le k, λ k. before i h k (le-or-lt at i)))
-      where
-        before : (i : ℕ) → i < length l → start D (getD l i 0) < start D m → (at ≤ i) ⊎ (i < at) → i < at
-        before i h k (inl x) = absurd (omega (arith, s .above i x h))
-        before i h k (inr x) = x
+        (λ z i h. (λ k. s .below i zero-le k, λ k. ⊎-elim (λ (x : at ≤ i). absurd (omega (arith, s .above i x h))) (λ x. x) (le-or-lt at i)))
 
     -- a bigger leaf that starts before the cell is met too
     pub part-before : reaches D l at (start D m) ≡ true → MetPart D l m (at - 1) (e - (at - 1))
