@@ -3,7 +3,7 @@ use mathlib.Core.Path.{_≡_, refl, sym, ap, _∙_}
 use mathlib.Core.Bool.{Bool, true}
 use mathlib.Core.List.{[], _∷_}
 use Prim.Native.Nat.{ℕ, _+_, _-_, _*_, _/_, _%_, _^_, _<_, _≤_}
-use native.Mathlib.Nat.{one-le-pow, eq-of-mul-eq-mul-right, add-sub-cancel-left, div-add-mod', div-lt-iff-lt-mul, add-sub-of-le}
+use native.Mathlib.Nat.{one-le-pow, mul-le-mul-right, eq-of-mul-eq-mul-right, add-sub-cancel-left, div-add-mod', div-lt-iff-lt-mul, add-sub-of-le}
 use lib.Pow.{pow-add}
 use lib.Dec.{leb, ltb, eqb}
 use borrow.Author.Tests.{leb-true, ltb-true, eqb-true}
@@ -15,7 +15,7 @@ use Rattle.cells.specs.Corners.{NoCell, nowhere, CellAt, onGrid, isCorne
 use Rattle.cells.proofs.Decisions.{One, one-equal, one-given, one-refuses, one-decided}
 use Rattle.cells.proofs.Cells.{proper-bounds, cell-of, level-le}
 use Rattle.cells.proofs.Bools.{both-true}
-use Rattle.cells.proofs.Places.{each-axis, each-true, same-voxel, number-lt, along-number, along-first, along-last}
+use Rattle.cells.proofs.Places.{each-axis, each-true, along-lt, same-voxel, number-lt, along-number, along-first, along-last}
 
 pub side-pos : (D c : ℕ) → 0 < side D c
 unfolding side
@@ -46,6 +46,15 @@ cell-at D k i h l =
       is-level = e;
       is-corner = λ b. rw (e, add-sub-cancel-left (8 ^ k) i);
     }
+
+-- ---- a corner lies in the root, a side before its end
+
+pub corner-lt : (b D c : ℕ) → corner b D c + side D c ≤ 2 ^ D
+unfolding corner side
+corner-lt b D c =
+    let k : ℕ = level D c in
+    let e : 2 ^ k * 2 ^ (D - k) ≡ 2 ^ D = sym (pow-add 2 k (D - k)) ∙ ap (λ (n : ℕ). 2 ^ n) (add-sub-of-le (level-le D c)) in
+    omega (arith, mul-le-mul-right (2 ^ (D - k)) (along-lt b k (index D c)))
 
 -- ---- a level and a corner are of one cell alone
 

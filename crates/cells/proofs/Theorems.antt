@@ -1,12 +1,11 @@
 -- What follows from the statements of the calls: coordinates and back give the code, a step and the step back give the cell, the root has no neighbour.
 -- Assumes nothing.
-use mathlib.Core.Path.{_≡_, refl, sym, ap, _∙_, subst₂}
+use mathlib.Core.Path.{_≡_, refl, sym, subst₂}
 use mathlib.Core.Logic.{inr}
 use mathlib.Core.Bool.{true, false≢true}
-use Prim.Native.Nat.{ℕ, zero, suc, _+_, _-_, _*_, _^_, _<_, _≤_}
-use native.Mathlib.Nat.{mul-le-mul-right, mul-mod-left, add-sub-of-le, add-mul, one-mul, zero-mul}
+use Prim.Native.Nat.{ℕ, zero, suc, _-_, _*_, _^_, _<_, _≤_}
+use native.Mathlib.Nat.{mul-mod-left, zero-mul}
 use native.Mathlib.Omega.{arith}
-use lib.Pow.{pow-add}
 use borrow.Author.Tests.{le-leb, lt-ltb}
 use lib.IntN.{ℤ, pos, negsuc, negℤ, _*ℤ_}
 use Rattle.cells.specs.Cell.{level, proper, index, side}
@@ -18,23 +17,18 @@ use Rattle.cells.proofs.Bools.{clash}
 use Rattle.cells.proofs.Decisions.{passes, deep-enough}
 use Rattle.cells.proofs.Cells.{level-le, level-is}
 use Rattle.cells.proofs.Bools.{both-true}
-use Rattle.cells.proofs.CornerLaws.{side-pos}
+use Rattle.cells.proofs.CornerLaws.{side-pos, corner-lt}
 use Rattle.cells.proofs.Integers.{above, below}
 use Rattle.cells.proofs.Displacements.{displaced→, displaced-back}
-use Rattle.cells.proofs.Places.{all-true, along-lt}
+use Rattle.cells.proofs.Places.{all-true}
 
 -- ---- the corner of a cell is a proper corner, and gives the cell's code
 
 corner-on-grid : (b D c : ℕ) → onGrid (2 ^ D) (2 ^ (D - level D c)) (corner b D c) ≡ true
 unfolding onGrid corner side
 corner-on-grid b D c =
-    let k : ℕ = level D c in
-    let s : ℕ = 2 ^ (D - k) in
-    let a : ℕ = along b k (index D c) in
-    let e : 2 ^ k * s ≡ 2 ^ D = sym (pow-add 2 k (D - k)) ∙ ap (λ (m : ℕ). 2 ^ m) (add-sub-of-le (level-le D c)) in
-    let top : (a + 1) * s ≤ 2 ^ k * s = mul-le-mul-right s (omega (arith, along-lt b k (index D c))) in
-    let lt : a * s < 2 ^ D = omega (arith, add-mul a 1 s, one-mul s, side-pos D c) in
-    rw (lt-ltb (a * s) (2 ^ D) lt, mul-mod-left a s)
+    let lt : corner b D c < 2 ^ D = omega (arith, corner-lt b D c, side-pos D c) in
+    rw (lt-ltb (corner b D c) (2 ^ D) lt, mul-mod-left (along b (level D c) (index D c)) (2 ^ (D - level D c)))
 
 pub there-and-back : (D c : ℕ) → D ≤ deepest → proper D c ≡ true → CodeOf D (λ a. corner (2 ^ a) D c) (level D c) (given c)
 unfolding isCorner

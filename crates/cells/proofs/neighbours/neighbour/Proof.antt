@@ -1,8 +1,9 @@
 -- `cells::neighbours::neighbour` meets its contract. The loop's invariant is `Progress` of Carries; its measure is the code of the labels that are left.
 -- Assumes nothing.
-use mathlib.Core.Path.{_≡_, refl, sym, ap, _∙_, subst}
+use mathlib.Core.Path.{_≡_, refl, sym, ap, _∙_}
 use mathlib.Core.Logic.{inl, inr}
 use mathlib.Core.Bool.{true}
+use mathlib.Core.List.{[], _∷_}
 use Prim.Native.Nat.{ℕ, _+_, _*_, _%_, _^_, _≤_, _<_}
 use native.Mathlib.Nat.{mul-le-mul-right}
 use native.Mathlib.Omega.{arith}
@@ -13,7 +14,9 @@ use mir.Syntax.{w32}
 use mir.ValLaws.{toZ-ofZ}
 use Rattle.cells.specs.Cell.{level, proper, index}
 use Rattle.cells.specs.Place.{axes}
-use Rattle.cells.specs.Answer.{given, deepest}
+use Rattle.cells.specs.Answer.{given, Decided, alone, deepest}
+use Rattle.cells.specs.Neighbour.{isDirection, NoDirection, Neighbour, Outside, NeighbourOf}
+use Rattle.cells.specs.declared.Answer.{Answer}
 use Rattle.cells.specs.Inner.{Direction}
 use Rattle.cells.specs.Payeur.{carried, stepped}
 use Rattle.cells.proofs.Cells.{level-le}
@@ -39,19 +42,25 @@ module _ (c : tie.After-direction Inv-loop μ-loop) where
   abbrev s : tie.Start Inv-loop μ-loop
   s = c .before .before .before .before
 
+  abbrev D : ℕ
+  D = s .args .depth
+
+  abbrev code : ℕ
+  code = s .args .code
+
   abbrev k : ℕ
-  k = level (s .args .depth) (s .args .code)
+  k = level D code
 
   abbrev i : ℕ
-  i = index (s .args .depth) (s .args .code)
+  i = index D code
 
   abbrev d : ℕ
   d = c .direction .result
 
-  deep : s .args .depth ≤ deepest
+  deep : D ≤ deepest
   deep = c .before .before .before .if1 .left
 
-  is : proper (s .args .depth) (s .args .code) ≡ true
+  is : proper D code ≡ true
   is = sym (c .before .before .is-proper .ensures) ∙ not-false _ (c .before .if2 .left)
 
   abbrev steps : ℕ → ℤ
@@ -62,90 +71,68 @@ module _ (c : tie.After-direction Inv-loop μ-loop) where
 
   -- 8 ^ k fits with room for a bit
   small : 8 ^ k ≤ 8 ^ deepest
-  small = pow8-small k (omega (arith, level-le (s .args .depth) (s .args .code), deep))
+  small = pow8-small k (omega (arith, level-le D code, deep))
+
+  -- the depth and the code pass their tests
+  past : (r : Answer) → Decided alone (NoDirection steps ∷ Outside D code steps ∷ []) (λ r. (m : ℕ) × Neighbour D code steps m × (r ≡ given m)) r → NeighbourOf D code steps r
+  past r x = inr (passes (deep-enough deep), inr (passes (clash is), x))
 
 returns-2 : tie.Need-returns-2 Inv-loop μ-loop
 returns-2 c =
     let p = c .before .before in
     inr (passes (deep-enough (p .before .if1 .left)), inl (_, (sym (p .is-proper .ensures) ∙ not-true _ (c .before .if2 .taken), refl), c .refusal2 .ensures))
 
-returns-3 : tie.Need-returns-3 Inv-loop μ-loop
-returns-3 c =
-    let q = c .before .before in
-    inr (passes (deep-enough (deep q)), inr (passes (clash (is q)), inl (_, (directed q .bad (c .before .if3 .taken), refl), c .refusal3 .ensures)))
+-- ---- in the loop
+
+module _ (l : tie.At-loop Inv-loop μ-loop) where
+  abbrev q : tie.After-direction Inv-loop μ-loop
+  q = l .before .before
+
+  some : d q ≡ 0 → ⊥
+  some = l .before .if3 .left
+
+  good : isDirection (steps q) ≡ true
+  good = directed q .good some
+
+  -- no carry is left: the address is known, and fits the word
+  worked : l .loop .carry ≤ 0 → (carried (k q) (i q) (d q) ≡ 0) × (l .loop .rest * l .loop .weight + l .loop .done ≡ 8 ^ k q + stepped (k q) (i q) (d q))
+  worked h = finished (l .loop .inv) (omega arith)
+
+  fits : l .loop .carry ≤ 0 → l .loop .rest * l .loop .weight + l .loop .done < 2 ^ 32
+  fits h = omega (arith, worked h, small q, stepped-lt (k q) (i q) (d q))
 
 loop-holds : tie.Need-loop-holds Inv-loop μ-loop
 loop-holds c =
     let q = c .before in
-    let a = s q .args in
-    begins (k q) (i q) (d q) (a .code) (code-is (a .depth) (a .code) (is q)) (index-lt (a .depth) (a .code) (is q)) (directed q .small)
+    begins (k q) (i q) (d q) (code q) (code-is (D q) (code q) (is q)) (index-lt (D q) (code q) (is q)) (directed q .small)
 
 returns-4 : tie.Need-returns-4 Inv-loop μ-loop
 returns-4 c =
     let l = c .before .before .before in
-    let q = l .before .before in
-    let a = s q .args in
-    let e = ended (k q) (i q) (d q) _ _ _ _ (l .loop .inv) (c .before .if4 .taken) in
-    inr (
-      passes (deep-enough (deep q)),
-      inr (
-        passes (clash (is q)),
-        inr (
-          passes (clash (directed q .good (l .before .if3 .left))),
-          inl (_, (missing (a .depth) (a .code) (is q) (steps q) (d q) (directed q) (l .before .if3 .left) (λ z. omega (arith, e, z, c .before .before .loop-test .taken)), refl), c .refusal4 .ensures),
-        ),
-      ),
-    )
+    let e = ended (l .loop .inv) (c .before .if4 .taken) in
+    let x = q l in
+    past x _
+    (inr (
+      passes (clash (good l)),
+      inl (_, (missing (D x) (code x) (is x) (steps x) (d x) (directed x) (some l) (λ z. omega (arith, e, z, c .before .before .loop-test .taken)), refl), c .refusal4 .ensures),
+    ))
 
 -- a label more fits the word
 next-fits : (c : tie.After-rule Inv-loop μ-loop)
     → (c .before .before .before .loop .done + c .rule .result % 8 * c .before .before .before .loop .weight < 2 ^ 32) × (c .before .before .before .loop .weight * 8 < 2 ^ 32)
 next-fits c =
     let l = c .before .before .before in
-    let q = l .before .before in
-    let r = room (k q) (i q) (d q) _ _ _ _ (l .loop .inv) (c .before .if4 .left) in
+    let r = room (l .loop .inv) (c .before .if4 .left) in
     let w : c .rule .result % 8 * l .loop .weight ≤ 7 * l .loop .weight = mul-le-mul-right (l .loop .weight) (omega arith) in
-    omega (arith, small q, l .loop .inv .low)
-
-loop-again : tie.Need-loop-again Inv-loop μ-loop
-loop-again c =
-    let l = c .before .before .before in
-    let q = l .before .before in
-    turned (k q) (i q) (d q) _ _ _ _ (c .rule .result) (l .loop .inv) (c .before .if4 .left) (c .rule .ensures)
-
--- no carry is left
-worked : (l : tie.At-loop Inv-loop μ-loop) → l .loop .carry ≤ 0
-    → (carried (k (l .before .before)) (i (l .before .before)) (d (l .before .before)) ≡ 0)
-    × (l .loop .rest * l .loop .weight + l .loop .done ≡ 8 ^ k (l .before .before) + stepped (k (l .before .before)) (i (l .before .before)) (d (l .before .before)))
-worked l h =
-    let q = l .before .before in
-    let z : l .loop .carry ≡ 0 = omega arith in
-    finished (k q) (i q) (d q) _ _ _ (subst (λ (n : ℕ). Progress (k q) (i q) (d q) n (l .loop .rest) (l .loop .done) (l .loop .weight)) z (l .loop .inv))
-
--- and the address fits the word
-address-fits : (c : tie.After-loop Inv-loop μ-loop) → c .before .loop .rest * c .before .loop .weight + c .before .loop .done < 2 ^ 32
-address-fits c =
-    let l = c .before in
-    let q = l .before .before in
-    omega (arith, worked l (c .loop-test .left), small q, stepped-lt (k q) (i q) (d q))
+    omega (arith, small (q l), l .loop .inv .low)
 
 returns-5 : tie.Need-returns-5 Inv-loop μ-loop
 returns-5 c =
     let l = c .before .before in
-    let q = l .before .before in
-    let a = s q .args in
+    let x = q l in
     let w = worked l (c .before .loop-test .left) in
-    let n = found (a .depth) (a .code) (is q) (steps q) (d q) (directed q) (l .before .if3 .left) (w .0) in
-    inr (
-      passes (deep-enough (deep q)),
-      inr (
-        passes (clash (is q)),
-        inr (
-          passes (clash (directed q .good (l .before .if3 .left))),
-          inr (passes (λ none. none _ n), (_, n, c .success .ensures ∙ ap given (w .1))),
-        ),
-      ),
-    )
+    let n = found (D x) (code x) (is x) (steps x) (d x) (directed x) (some l) (w .0) in
+    past x _ (inr (passes (clash (good l)), inr (passes (λ none. none _ n), (_, n, c .success .ensures ∙ ap given (w .1)))))
 
 pub neighbour-spec : {M : Type 1} → statement M
 neighbour-spec =
@@ -160,7 +147,7 @@ neighbour-spec =
     returns-2
     (λ c κs. search needs)
     (λ c κs. search needs)
-    returns-3
+    (λ c. let x = c .before .before in past x _ (inl (_, (directed x .bad (c .before .if3 .taken), refl), c .refusal3 .ensures)))
     loop-holds
     (λ c κs. search needs)
     returns-4
@@ -169,9 +156,9 @@ neighbour-spec =
     (λ c. omega (arith, next-fits c))
     (λ c. omega (arith, next-fits c))
     (λ c. omega arith)
-    loop-again
-    (λ c. omega (arith, address-fits c))
-    (λ c. omega (arith, address-fits c))
-    (λ c. omega (arith, address-fits c))
+    (λ c. turned (c .before .before .before .loop .inv) (c .rule .result) (c .before .if4 .left) (c .rule .ensures))
+    (λ c. omega (arith, fits (c .before) (c .loop-test .left)))
+    (λ c. omega (arith, fits (c .before) (c .loop-test .left)))
+    (λ c. omega (arith, fits (c .before) (c .loop-test .left)))
     (λ c κs. search needs)
     returns-5)
