@@ -50,6 +50,7 @@ pub record Cell (D c : ℕ) : Type 0 where
   pub depth : k + n ≡ D
   pub code : c ≡ 8 ^ k + i
   pub index : i < 8 ^ k
+  pub level≡ : level D c ≡ k
   pub span≡ : span D c ≡ 8 ^ n
   pub start≡ : start D c ≡ i * 8 ^ n
 
@@ -79,6 +80,7 @@ cell D c e = record {
   depth = omega (arith, level-le D c);
   code = omega (arith, proper-bounds D c e);
   index = omega (arith, proper-bounds D c e);
+  level≡ = refl;
   span≡ = refl;
   start≡ = refl;
 }
@@ -154,27 +156,19 @@ pub record Child (D c d j : ℕ) : Type 0 where
   pub is-span : 8 * span D d ≡ span D c
   pub is-start : start D d ≡ start D c + j * span D d
 
--- stated over the levels m below the child
-child-at : (D c j k m i : ℕ) → k + suc m ≡ D → c ≡ 8 ^ k + i → i < 8 ^ k → level D c ≡ k → span D c ≡ 8 ^ suc m → start D c ≡ i * 8 ^ suc m → j < 8
-    → Child D c (8 ^ suc k + (8 * i + j)) j
-child-at D c j k m i dep cod ind lev spa sta l =
-    let t = cell-of D (suc k) m (8 * i + j) (omega arith) (omega (arith, pow8-suc k)) in
-    let s : start D c ≡ i * (8 * 8 ^ m) = sta ∙ ap (λ (x : ℕ). i * x) (pow8-suc m) in
-    record {
-      is-proper = t .0;
-      is-level = omega (arith, t .1);
-      is-span = omega (arith, t .2, pow8-suc m);
-      is-start = t .3 ∙ rw (t .2) (omega arith);
-    }
-
 pub child : (D c j : ℕ) → proper D c ≡ true → level D c < D → j < 8 → Child D c (8 * c + j) j
-unfolding start span index
 child D c j e h l =
-    let m : ℕ = D - suc (level D c) in
-    let n : D - level D c ≡ suc m = omega arith in
-    let b = proper-bounds D c e in
-    let t = child-at D c j (level D c) m (c - 8 ^ level D c) (omega arith) (omega arith) (omega arith) refl (rw n) (rw n) l in
-    subst (λ (d : ℕ). Child D c d j) (omega (arith, pow8-suc (level D c))) t
+    let t = cell D c e in
+    let m : ℕ = D - suc (t .k) in
+    let w : 8 ^ t .n ≡ 8 * 8 ^ m = ap (λ (x : ℕ). 8 ^ x) (omega (arith, t .level≡, t .depth)) ∙ pow8-suc m in
+    let code : 8 ^ suc (t .k) + (8 * t .i + j) ≡ 8 * c + j = omega (arith, t .code, pow8-suc (t .k)) in
+    let r = rw code at (cell-of D (suc (t .k)) m (8 * t .i + j) (omega (arith, t .level≡)) (omega (arith, t .index, pow8-suc (t .k)))) in
+    record {
+      is-proper = r .0;
+      is-level = r .1 ∙ ap suc (sym (t .level≡));
+      is-span = omega (arith, r .2, t .span≡, w);
+      is-start = r .3 ∙ rw (r .2) (omega (arith, t .start≡, ap (λ (x : ℕ). t .i * x) w));
+    }
 
 -- a child lies in its parent
 abbrev pub Inside : ℕ → ℕ → ℕ → Type 0

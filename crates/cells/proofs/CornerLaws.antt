@@ -3,8 +3,7 @@ use mathlib.Core.Path.{_≡_, refl, sym, ap, _∙_}
 use mathlib.Core.Bool.{Bool, true}
 use mathlib.Core.List.{[], _∷_}
 use Prim.Native.Nat.{ℕ, _+_, _-_, _*_, _/_, _%_, _^_, _<_, _≤_}
-use native.Mathlib.Nat.{one-le-pow, mul-le-mul-right, eq-of-mul-eq-mul-right, add-sub-cancel-left, div-add-mod', div-lt-iff-lt-mul, add-sub-of-le}
-use lib.Pow.{pow-add}
+use native.Mathlib.Nat.{mul-le-mul-right, eq-of-mul-eq-mul-right, add-sub-cancel-left, div-add-mod', div-lt-iff-lt-mul}
 use lib.Dec.{leb, ltb, eqb}
 use borrow.Author.Tests.{leb-true, ltb-true, eqb-true}
 use native.Mathlib.Omega.{arith}
@@ -13,13 +12,14 @@ use Rattle.cells.specs.Place.{axes, EachAxis, allAxes, along, number, co
 use Rattle.cells.specs.Answer.{alone, deepest, TooDeep}
 use Rattle.cells.specs.Corners.{NoCell, nowhere, CellAt, onGrid, isCorner, NoCorner, PlaceOf, CodeOf}
 use Rattle.cells.proofs.Decisions.{One, one-equal, one-given, one-refuses, one-decided}
+use Rattle.cells.proofs.Power.{pow2-pos, pow-split}
 use Rattle.cells.proofs.Cells.{proper-bounds, cell-of, level-le}
 use Rattle.cells.proofs.Bools.{both-true}
 use Rattle.cells.proofs.Places.{each-axis, each-true, along-lt, same-voxel, number-lt, along-number, along-first, along-last}
 
 pub side-pos : (D c : ℕ) → 0 < side D c
 unfolding side
-side-pos D c = one-le-pow (D - level D c) 2 (omega arith)
+side-pos D c = pow2-pos (D - level D c)
 
 pub index-lt : (D c : ℕ) → proper D c ≡ true → index D c < 8 ^ level D c
 unfolding index
@@ -53,8 +53,7 @@ pub corner-lt : (b D c : ℕ) → corner b D c + side D c ≤ 2 ^ D
 unfolding corner side
 corner-lt b D c =
     let k : ℕ = level D c in
-    let e : 2 ^ k * 2 ^ (D - k) ≡ 2 ^ D = sym (pow-add 2 k (D - k)) ∙ ap (λ (n : ℕ). 2 ^ n) (add-sub-of-le (level-le D c)) in
-    omega (arith, mul-le-mul-right (2 ^ (D - k)) (along-lt b k (index D c)))
+    omega (arith, pow-split 2 (level-le D c), mul-le-mul-right (2 ^ (D - k)) (along-lt b k (index D c)))
 
 -- ---- a level and a corner are of one cell alone
 
@@ -62,7 +61,7 @@ same-along : (b D c d : ℕ) → level D c ≡ level D d → corner b D c ≡ co
 unfolding corner side
 same-along b D c d l e =
     let e′ : along b (level D c) (index D c) * 2 ^ (D - level D c) ≡ along b (level D c) (index D d) * 2 ^ (D - level D c) = e ∙ rw (← l) refl in
-    eq-of-mul-eq-mul-right (2 ^ (D - level D c)) (one-le-pow (D - level D c) 2 (omega arith)) _ _ e′
+    eq-of-mul-eq-mul-right (2 ^ (D - level D c)) (pow2-pos (D - level D c)) _ _ e′
 
 pub one-cell : (D c d : ℕ) → proper D c ≡ true → proper D d ≡ true → level D c ≡ level D d → EachAxis (λ a. corner (2 ^ a) D c ≡ corner (2 ^ a) D d) → c ≡ d
 one-cell D c d p q l e =
@@ -114,10 +113,7 @@ is-corner D x k e =
 -- a coordinate in sides
 module _ (D k x : ℕ) (h : k ≤ D) (g : OnGrid (2 ^ D) (2 ^ (D - k)) x) where
   in-sides : x / 2 ^ (D - k) < 2 ^ k
-  in-sides =
-      let s : ℕ = 2 ^ (D - k) in
-      let e : 2 ^ k * s ≡ 2 ^ D = sym (pow-add 2 k (D - k)) ∙ ap (λ (n : ℕ). 2 ^ n) (add-sub-of-le h) in
-      div-lt-iff-lt-mul (one-le-pow (D - k) 2 (omega arith)) .1 (omega (arith, g .root))
+  in-sides = div-lt-iff-lt-mul (pow2-pos (D - k)) .1 (omega (arith, pow-split 2 h, g .root))
 
   from-sides : x / 2 ^ (D - k) * 2 ^ (D - k) ≡ x
   from-sides = omega (arith, div-add-mod' x (2 ^ (D - k)), g .multiple)

@@ -14,6 +14,10 @@ le-or-lt a b = go (decLe a b)
     go (yes h) = inl h
     go (no n) = inr (lt-of-not-le n)
 
+-- a cube of depth j is one of depth i, of cubes of depth j - i
+pub pow-split : (b : ℕ) {i j : ℕ} → i ≤ j → b ^ i * b ^ (j - i) ≡ b ^ j
+pow-split b {i} {j} h = sym (pow-add b i (j - i)) ∙ ap (λ (x : ℕ). b ^ x) (add-sub-of-le h)
+
 -- ---- of two
 
 pub pow2-pos : (n : ℕ) → 0 < 2 ^ n
@@ -52,7 +56,7 @@ pow8-inj i j e = le-antisymm (pow8-le-inv i j (le-of-eq e)) (pow8-le-inv j i (le
 
 -- the greater power is a multiple of the smaller
 pub pow8-split : {i j : ℕ} → i ≤ j → 8 ^ j ≡ 8 ^ (j - i) * 8 ^ i
-pow8-split {i} {j} h = ap (λ (x : ℕ). 8 ^ x) (sym (add-sub-of-le h)) ∙ pow-add 8 i (j - i) ∙ mul-comm (8 ^ i) (8 ^ (j - i))
+pow8-split {i} {j} h = sym (pow-split 8 h) ∙ mul-comm (8 ^ i) (8 ^ (j - i))
 
 -- the first division of n + 1
 pub div-pow : (b n v : ℕ) → v / b ^ suc n ≡ v / b / b ^ n

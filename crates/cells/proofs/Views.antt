@@ -7,13 +7,12 @@ use native.Mathlib.Nat.{div-add-mod', mod-lt, add-sub-of-le, add-mul-div-right, 
 use lib.IntN.{ℤ, pos, _*ℤ_}
 use native.Mathlib.Omega.{arith}
 use lib.Dec.{leb, ltb}
-use lib.Pow.{pow-add}
 use borrow.Author.Tests.{leb-true, ltb-true, le-leb, lt-ltb}
 use Rattle.cells.specs.Cell.{level, proper, index, side, start, span, holds}
 use Rattle.cells.specs.Place.{EachAxis, along, corner, Came}
 use Rattle.cells.specs.Neighbour.{Neighbour}
 use Rattle.cells.proofs.Displacements.{displaced→, displaced-sides}
-use Rattle.cells.proofs.Power.{pow8-pos}
+use Rattle.cells.proofs.Power.{pow8-pos, pow-split}
 use Rattle.cells.proofs.Cells.{level-le}
 use Rattle.cells.proofs.Bools.{both-true}
 use Rattle.cells.proofs.CornerLaws.{index-lt, side-pos}
@@ -61,8 +60,7 @@ module _ (D c : ℕ) (p : proper D c ≡ true) where
   from-cube v l at =
       let e : k + n ≡ D = add-sub-of-le (level-le D c) in
       let q : ℕ = v / 8 ^ n in
-      let d : 8 ^ k * 8 ^ n ≡ 8 ^ D = sym (pow-add 8 k n) ∙ ap (λ (m : ℕ). 8 ^ m) e in
-      let w : q < 8 ^ k = div-lt-iff-lt-mul (pow8-pos n) .1 (omega arith) in
+      let w : q < 8 ^ k = div-lt-iff-lt-mul (pow8-pos n) .1 (omega (arith, pow-split 8 (level-le D c))) in
       from-quotient v (same-voxel k q (index D c) w (index-lt D c p) (λ a h. sym (subst (λ (m : ℕ). along (2 ^ a) m v / 2 ^ n ≡ along (2 ^ a) k q) e (along-div (2 ^ a) k n v)) ∙ at a h))
 
 -- ---- the neighbour by its voxels: each voxel of the cell, displaced by the cell's side, is one of the neighbour's

@@ -3,7 +3,12 @@ use mathlib.Core.Path.{_≡_, _∙_}
 use Prim.Native.Nat.{ℕ, _*_, _%_, _^_, _≤_, _<_}
 use native.Mathlib.Nat.{one-mul, mod-eq-of-lt, pow-le-pow-right}
 use native.Mathlib.Omega.{arith}
+use lib.IntN.{ℤ}
+use mir.Syntax.{w32}
+use mir.Val.{SFits, toZ, ofZ}
+use mir.ValLaws.{toZ-ofZ}
 use Rattle.cells.specs.Answer.{deepest}
+use Rattle.cells.specs.Place.{axes}
 use Rattle.cells.proofs.Power.{pow8-bits}
 
 pub pow2-small : (n : ℕ) → n ≤ deepest → 2 ^ n ≤ 2 ^ deepest
@@ -11,6 +16,11 @@ pow2-small n h = pow-le-pow-right {n = 2} (omega arith) h
 
 pub pow8-small : (n : ℕ) → n ≤ deepest → 8 ^ n ≤ 8 ^ deepest
 pow8-small n h = pow-le-pow-right {n = 8} (omega arith) h
+
+-- a callee reads signed arguments back from their bits: they are the arguments
+pub signed-axes : (P : (ℕ → ℤ) → Type 0) (x y z : ℤ) → SFits w32 x → SFits w32 y → SFits w32 z
+    → P (axes (toZ w32 (ofZ w32 x)) (toZ w32 (ofZ w32 y)) (toZ w32 (ofZ w32 z))) → P (axes x y z)
+signed-axes P x y z fx fy fz p = rw (toZ-ofZ w32 x fx, toZ-ofZ w32 y fy, toZ-ofZ w32 z fz) at p
 
 -- a shift of 1 by 3 * k, in a word of w bits
 pub shifted : (w k : ℕ) → 8 ^ k < 2 ^ w → (1 * 2 ^ (3 * k)) % 2 ^ w ≡ 8 ^ k

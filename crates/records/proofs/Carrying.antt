@@ -17,7 +17,8 @@ use Rattle.records.specs.Carried.{FromBlack, Straying}
 use Rattle.records.proofs.Lists.{black-in-root}
 use Rattle.records.proofs.Leaves.{member-black}
 use Rattle.records.proofs.Fault.{member-at}
-use Rattle.records.proofs.Volumes.{blacks, moved-volume}
+use Rattle.records.proofs.Counting.{count-bijection}
+use Rattle.records.proofs.Volumes.{blacks}
 
 -- voxels are carried into the root of depth D, each to one, and each from one
 pub record Carrying (D : ℕ) (R : ℕ → ℕ → Type 0) : Type 0 where
@@ -78,7 +79,7 @@ module _ (D : ℕ) (R : ℕ → ℕ → Type 0) (carrying : Carrying D R) where
 
     pub carried-volume : blacks D l ≡ blacks D m
     carried-volume =
-        moved-volume D l m to from
+        count-bijection (black D l) (black D m) (8 ^ D) (8 ^ D) to from
         (λ u h e.
         let r : R u (to u) = image-carried u (black D l u) refl e in
         let inside = carrying .root u (to u) r in

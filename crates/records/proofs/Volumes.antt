@@ -1,4 +1,4 @@
--- The voxels of an ordered list's leaves, added up, are its black voxels; and how many voxels are black in a join, an intersection, a difference and a moved list.
+-- The voxels of an ordered list's leaves, added up, are its black voxels; and how many voxels are black in a join, an intersection and a difference.
 -- Assumes nothing.
 use mathlib.Core.Path.{_≡_, ap₂, _∙_}
 use mathlib.Core.Bool.{true, false, not, _&&_, _||_, and-false}
@@ -13,7 +13,7 @@ use Rattle.records.specs.Inner.{volume}
 use Rattle.cells.proofs.Power.{le-or-lt}
 use Rattle.cells.proofs.Cells.{within}
 use Rattle.records.proofs.Lists.{black-before, after-cell}
-use Rattle.records.proofs.Counting.{count-same, count-none, count-join, count-less, count-apart, count-interval, count-bijection}
+use Rattle.records.proofs.Counting.{count-same, count-none, count-join, count-less, count-apart, count-interval}
 
 -- one leaf
 pub leaf-volume : (D c : ℕ) → proper D c ≡ true → count (holds D c) (8 ^ D) ≡ span D c
@@ -60,10 +60,3 @@ module _ (D : ℕ) (l m : List ℕ) where
         count-same (black D i) (λ v. black D l v && black D m v) (8 ^ D) hi,
         count-less (black D l) (black D m) (8 ^ D),
       )
-
-  -- a map that takes the black voxels of l to those of m, and one that takes them back, keep the volume: moves and quarter turns
-  pub moved-volume : (f g : ℕ → ℕ)
-      → ((v : ℕ) → v < 8 ^ D → black D l v ≡ true → (f v < 8 ^ D) × (black D m (f v) ≡ true) × (g (f v) ≡ v))
-      → ((w : ℕ) → w < 8 ^ D → black D m w ≡ true → (g w < 8 ^ D) × (black D l (g w) ≡ true) × (f (g w) ≡ w))
-      → blacks D l ≡ blacks D m
-  moved-volume f g to back = count-bijection (black D l) (black D m) (8 ^ D) (8 ^ D) f g to back

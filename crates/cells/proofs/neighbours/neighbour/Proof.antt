@@ -10,8 +10,6 @@ use native.Mathlib.Omega.{arith}
 use borrow.Author.Needs.{needs}
 use borrow.Author.Tests.{not-true, not-false}
 use lib.IntN.{ℤ}
-use mir.Syntax.{w32}
-use mir.ValLaws.{toZ-ofZ}
 use Rattle.cells.specs.Cell.{level, proper, index}
 use Rattle.cells.specs.Place.{axes}
 use Rattle.cells.specs.Answer.{given, Decided, alone, deepest}
@@ -23,7 +21,7 @@ use Rattle.cells.proofs.Cells.{level-le}
 use Rattle.cells.proofs.CornerLaws.{code-is, index-lt}
 use Rattle.cells.proofs.Bools.{clash}
 use Rattle.cells.proofs.Decisions.{passes, deep-enough}
-use Rattle.cells.proofs.Words.{pow8-small}
+use Rattle.cells.proofs.Words.{pow8-small, signed-axes}
 use Rattle.cells.proofs.Carries.{Progress, begins, ended, turned, room, finished}
 use Rattle.cells.proofs.Steps.{stepped-lt}
 use Rattle.cells.proofs.NeighbourLaws.{found, missing}
@@ -67,7 +65,7 @@ module _ (c : tie.After-direction Inv-loop μ-loop) where
   steps = axes (s .args .dx) (s .args .dy) (s .args .dz)
 
   directed : Direction steps d
-  directed = rw (toZ-ofZ w32 (s .args .dx) (s .fits .dx), toZ-ofZ w32 (s .args .dy) (s .fits .dy), toZ-ofZ w32 (s .args .dz) (s .fits .dz)) at (c .direction .ensures)
+  directed = signed-axes (λ x. Direction x d) _ _ _ (s .fits .dx) (s .fits .dy) (s .fits .dz) (c .direction .ensures)
 
   -- 8 ^ k fits with room for a bit
   small : 8 ^ k ≤ 8 ^ deepest

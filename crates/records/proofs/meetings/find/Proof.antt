@@ -5,8 +5,6 @@ use Prim.Native.Nat.{ℕ, _*_, _^_, _<_}
 use native.Mathlib.Omega.{arith}
 use lib.IntN.{ℤ}
 use borrow.Author.Needs.{needs}
-use mir.Syntax.{w32}
-use mir.ValLaws.{toZ-ofZ}
 use Rattle.cells.specs.Answer.{given, Test, Decided, alone, deepest, TooDeep}
 use Rattle.cells.specs.Cell.{level}
 use Rattle.cells.specs.Place.{axes}
@@ -16,7 +14,7 @@ use Rattle.cells.specs.declared.Answer.{Answer}
 use Rattle.cells.proofs.Cells.{level-le, proper-bounds}
 use Rattle.cells.proofs.Decisions.{passes, deep-enough, decided-past, opening-refuses, opening-passes, opening-known}
 use Rattle.cells.proofs.NeighbourLaws.{neighbours}
-use Rattle.cells.proofs.Words.{pow8-small}
+use Rattle.cells.proofs.Words.{pow8-small, signed-axes}
 use Rattle.records.specs.Met.{unmet, MeetingOf}
 use Rattle.records.specs.declared.meetings.Meeting.{Meeting}
 use Rattle.records.proofs.CallLaws.{Checked, checks}
@@ -75,7 +73,7 @@ module _ (c : tie.After-neighbour) where
   Given r = (m : ℕ) × Neighbour (D (t e)) (code (t e)) (d (t e)) m × (r ≡ given m)
 
   answered : NeighbourOf (D (t e)) (code (t e)) (d (t e)) (c .neighbour .result)
-  answered = rw (toZ-ofZ w32 (b .args .dx) (b .fits .dx), toZ-ofZ w32 (b .args .dy) (b .fits .dy), toZ-ofZ w32 (b .args .dz) (b .fits .dz)) at (c .neighbour .ensures)
+  answered = signed-axes (λ x. NeighbourOf (D (t e)) (code (t e)) x (c .neighbour .result)) _ _ _ (b .fits .dx) (b .fits .dy) (b .fits .dz) (c .neighbour .ensures)
 
   decided : Decided alone (left (t e)) Given (c .neighbour .result)
   decided = decided-past alone (TooDeep deepest (D (t e))) (left (t e)) Given (c .neighbour .result) (passes (deep-enough (known e .shallow))) answered

@@ -7,8 +7,7 @@ use native.Mathlib.Omega.{arith}
 use lib.IntN.{ℤ}
 use lib.ListN.{length, take, drop}
 use borrow.Author.Needs.{needs}
-use mir.Syntax.{w32}
-use mir.ValLaws.{toZ-ofZ}
+use Rattle.cells.proofs.Words.{signed-axes}
 use Rattle.cells.specs.Place.{axes}
 use Rattle.records.specs.Met.{MeetingOf}
 use Rattle.records.specs.declared.meetings.Meeting.{Meeting}
@@ -32,7 +31,7 @@ module _ (c : tie.After-find) where
   r = c .find .result
 
   found : MeetingOf (s .args .depth) l (s .args .code) d r
-  found = rw (toZ-ofZ w32 (s .args .dx) (s .fits .dx), toZ-ofZ w32 (s .args .dy) (s .fits .dy), toZ-ofZ w32 (s .args .dz) (s .fits .dz)) at (c .find .ensures)
+  found = signed-axes (λ x. MeetingOf (s .args .depth) l (s .args .code) x r) _ _ _ (s .fits .dx) (s .fits .dy) (s .fits .dz) (c .find .ensures)
 
   within : r .at + r .n ≤ length l
   within = within-list (s .args .depth) l (s .args .code) d r found
