@@ -1,10 +1,12 @@
--- `cells::corners::is_corner` meets its contract. The tests are those of `isCorner`, in its order.
--- Assumes nothing.
-use borrow.Author.Needs.{needs}
-use Prim.Native.Nat.{_-_}
+-- `cells::corners::is_corner` meets its contract. The tests are those of `isCorner`, in its order. Assumes nothing.
+use mathlib.Core.Path.{_≡_, sym, ap₂, _∙_}
+use mathlib.Core.Bool.{Bool, true, _&&_}
+use Prim.Native.Nat.{ℕ, _-_, _^_, _<_}
 use native.Mathlib.Omega.{arith}
+use borrow.Author.Needs.{needs}
 use borrow.Author.Tests.{le-leb, lt-leb, not-true, not-false}
-use Rattle.cells.specs.Corners.{isCorner}
+use Rattle.cells.specs.Place.{axes}
+use Rattle.cells.specs.Corners.{onGrid, isCorner}
 use Rattle.cells.proofs.Power.{pow2-pos}
 use Rattle.cells.proofs.corners.is_corner.Statement.{statement}
 use Rattle.cells.proofs.corners.is_corner.Tie as tie
@@ -13,35 +15,45 @@ returns : tie.Need-returns
 unfolding isCorner
 returns c = let a = c .before .args in rw (lt-leb (a .level) (a .depth) (c .if1 .taken))
 
-on-grid-requires : tie.Need-on-grid-requires
-on-grid-requires c κs = let a = c .before .before .before .args in omega (arith, c .pow22 .ensures, pow2-pos (a .depth - a .level))
+-- ---- past the test of the level
+
+module _ (c : tie.After-pow22) where
+  abbrev s : tie.Start
+  s = c .before .before .before
+
+  abbrev grid : ℕ → Bool
+  grid x = onGrid (2 ^ s .args .depth) (2 ^ (s .args .depth - s .args .level)) x
+
+  some-side : 0 < c .pow22 .result
+  some-side = omega (arith, c .pow22 .ensures, pow2-pos (s .args .depth - s .args .level))
+
+  -- a coordinate's test
+  tested : (x : ℕ) {r : Bool} → r ≡ onGrid (c .before .pow2 .result) (c .pow22 .result) x → grid x ≡ r
+  tested x e = sym (e ∙ ap₂ (λ (w s : ℕ). onGrid w s x) (c .before .pow2 .ensures) (c .pow22 .ensures))
+
+  -- all three
+  corner : (r : Bool) → r ≡ (grid (s .args .x) && (grid (s .args .y) && grid (s .args .z))) → r ≡ isCorner (s .args .depth) (axes (s .args .x) (s .args .y) (s .args .z)) (s .args .level)
+  unfolding isCorner
+  corner r e = e ∙ sym (rw (le-leb (s .args .level) (s .args .depth) (c .before .before .if1 .left)))
+
+module _ (c : tie.Else2) where
+  abbrev p : tie.After-pow22
+  p = c .before .before
+
+  on-x : grid p (s p .args .x) ≡ true
+  on-x = tested p _ (c .before .on-grid .ensures) ∙ not-false _ (c .if2 .left)
 
 returns-2 : tie.Need-returns-2
-unfolding isCorner
-returns-2 c =
-    let g = c .before in
-    let a = g .before .before .before .before .args in
-    rw (le-leb (a .level) (a .depth) (g .before .before .before .if1 .left), ← g .before .before .pow2 .ensures, ← g .before .pow22 .ensures, ← g .on-grid .ensures, not-true (g .on-grid .result) (c .if2 .taken))
-
-on-grid-requires-2 : tie.Need-on-grid-requires-2
-on-grid-requires-2 c κs = let a = c .before .before .before .before .before .args in omega (arith, c .before .before .pow22 .ensures, pow2-pos (a .depth - a .level))
+returns-2 c = let g = c .before in corner (g .before) _ (rw (tested (g .before) _ (g .on-grid .ensures) ∙ not-true _ (c .if2 .taken)))
 
 returns-3 : tie.Need-returns-3
-unfolding isCorner
-returns-3 c =
-    let g = c .before .before .before in
-    let a = g .before .before .before .before .args in
-    rw (le-leb (a .level) (a .depth) (g .before .before .before .if1 .left), ← g .before .before .pow2 .ensures, ← g .before .pow22 .ensures, ← g .on-grid .ensures, ← c .before .on-grid2 .ensures, not-false (g .on-grid .result) (c .before .before .if2 .left), not-true (c .before .on-grid2 .result) (c .if3 .taken))
-
-on-grid-requires-3 : tie.Need-on-grid-requires-3
-on-grid-requires-3 c κs = let a = c .before .before .before .before .before .before .before .args in omega (arith, c .before .before .before .before .pow22 .ensures, pow2-pos (a .depth - a .level))
+returns-3 c = let g = c .before in let e = g .before in corner (p e) _ (rw (on-x e, tested (p e) _ (g .on-grid2 .ensures) ∙ not-true _ (c .if3 .taken)))
 
 returns-4 : tie.Need-returns-4
-unfolding isCorner
 returns-4 c =
-    let g = c .before .before .before .before in
-    let a = g .before .before .before .before .args in
-    rw (le-leb (a .level) (a .depth) (g .before .before .before .if1 .left), ← g .before .before .pow2 .ensures, ← g .before .pow22 .ensures, ← g .on-grid .ensures, ← c .before .before .on-grid2 .ensures, ← c .on-grid3 .ensures, not-false (g .on-grid .result) (c .before .before .before .if2 .left), not-false (c .before .before .on-grid2 .result) (c .before .if3 .left))
+    let g = c .before .before in
+    let e = g .before in
+    corner (p e) _ (rw (on-x e, tested (p e) _ (g .on-grid2 .ensures) ∙ not-false _ (c .before .if3 .left)) (sym (tested (p e) _ (c .on-grid3 .ensures))))
 
 pub is-corner-spec : {M : Type 1} → statement M
 is-corner-spec =
@@ -50,9 +62,9 @@ is-corner-spec =
     returns
     (λ c κs. search needs)
     (λ c κs. search needs)
-    on-grid-requires
+    (λ c κs. some-side c)
     returns-2
-    on-grid-requires-2
+    (λ c κs. some-side (p c))
     returns-3
-    on-grid-requires-3
+    (λ c κs. some-side (p (c .before .before)))
     returns-4)
