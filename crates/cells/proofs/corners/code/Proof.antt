@@ -13,7 +13,7 @@ use Rattle.cells.proofs.Bools.{clash}
 use Rattle.cells.proofs.Decisions.{passes, deep-enough}
 use Rattle.cells.specs.Corners.{isCorner}
 use Rattle.cells.proofs.Power.{pow2-pos}
-use Rattle.cells.proofs.Words.{pow8-small}
+use Rattle.cells.proofs.Words.{codes-fit}
 use Rattle.cells.proofs.Places.{number-lt}
 use Rattle.cells.proofs.CornerLaws.{IsCorner, is-corner, cell-of-corner}
 use Rattle.cells.proofs.corners.code.Statement.{statement}
@@ -49,7 +49,7 @@ add-code c =
     let e = c .before .before .before in
     let a = e .before .before .before .args in
     let s : ℕ = c .before .before .pow2 .result in
-    omega (arith, c .number-of .ensures, c .before .pow8 .ensures, number-lt (a .level) (a .x / s) (a .y / s) (a .z / s), pow8-small (a .level) (omega (arith, grid e .deep, deep e)))
+    omega (arith, c .number-of .ensures, c .before .pow8 .ensures, number-lt (a .level) (a .x / s) (a .y / s) (a .z / s), codes-fit (a .level) (omega (arith, grid e .deep, deep e)))
 
 returns-3 : tie.Need-returns-3
 returns-3 c =

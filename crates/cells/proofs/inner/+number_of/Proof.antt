@@ -5,7 +5,7 @@ use borrow.Fn.Kinds.{In}
 use borrow.Fn.PlainCycle.{Measures, is, falls, and}
 use Rattle.cells.proofs.Places.{number-lt, number-none, number-rec}
 use Rattle.cells.proofs.Power.{pow8-pred}
-use Rattle.cells.proofs.Words.{pow8-small}
+use Rattle.cells.proofs.Words.{codes-fit}
 use Rattle.cells.proofs.inner.number_of.Reads as number-of
 use Rattle.cells.proofs.inner.number_of.Kinds as number-of-kinds
 use Rattle.cells.proofs.inner.+number_of.Lts-number_of as number-of-lts
@@ -32,10 +32,10 @@ pub +number-of-spec : {M : Type 1} → statement M
     (λ c. number-none _ _ _ _ (c .if1 .taken))
     (λ c. omega arith)
     (λ c κs. omega arith)
-    (λ c. let a = c .before .before .args in omega (arith, c .number-of .ensures, number-lt (a .n - 1) (a .x / 2) (a .y / 2) (a .z / 2), pow8-pred (a .n) (omega arith), pow8-small (a .n) (omega arith)))
+    (λ c. let a = c .before .before .args in omega (arith, c .number-of .ensures, number-lt (a .n - 1) (a .x / 2) (a .y / 2) (a .z / 2), pow8-pred (a .n) (omega arith), codes-fit (a .n) (omega arith)))
     (λ c. omega arith)
     (λ c. omega arith)
     (λ c. omega arith)
     (λ c. omega arith)
-    (λ c. let a = c .before .before .args in omega (arith, c .number-of .ensures, number-lt (a .n - 1) (a .x / 2) (a .y / 2) (a .z / 2), pow8-pred (a .n) (omega arith), pow8-small (a .n) (omega arith)))
+    (λ c. let a = c .before .before .args in omega (arith, c .number-of .ensures, number-lt (a .n - 1) (a .x / 2) (a .y / 2) (a .z / 2), pow8-pred (a .n) (omega arith), codes-fit (a .n) (omega arith)))
     (λ c. let a = c .before .before .args in rw (c .number-of .ensures) (number-rec (a .n) (a .x) (a .y) (a .z) (omega arith)))

@@ -5,7 +5,7 @@ use native.Mathlib.Omega.{arith}
 use borrow.Author.Needs.{needs}
 use Rattle.cells.specs.Cell.{start}
 use Rattle.cells.proofs.Cells.{interval, within}
-use Rattle.cells.proofs.Words.{pow8-small}
+use Rattle.cells.proofs.Words.{codes-fit}
 use Rattle.cells.proofs.inner.first.Statement.{statement}
 use Rattle.cells.proofs.inner.first.Tie as tie
 
@@ -16,7 +16,7 @@ product c = let s = c .before in ap (λ (w : ℕ). s .args .code * w) (c .width 
 mul-result : tie.Need-mul-result
 mul-result c =
     let s = c .before in
-    omega (arith, product c, within (s .args .depth) (s .args .code) (s .pre .1), pow8-small (s .args .depth) (s .pre .0))
+    omega (arith, product c, within (s .args .depth) (s .args .code) (s .pre .1), codes-fit (s .args .depth) (s .pre .0))
 
 pub first-spec : {M : Type 1} → statement M
 first-spec = tie.close (tie.spec (λ c κs. search needs) mul-result (λ c κs. search needs) (λ c. omega (arith, product (c .before), c .pow8 .ensures)) (λ c. omega (arith, product (c .before), c .pow8 .ensures)))

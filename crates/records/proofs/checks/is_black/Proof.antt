@@ -3,7 +3,7 @@ use mathlib.Core.Path.{_∙_}
 use Prim.Native.Nat.{zero-le}
 use native.Mathlib.Nat.{le-refl}
 use native.Mathlib.Omega.{arith}
-use Rattle.cells.proofs.Words.{pow8-small}
+use Rattle.cells.proofs.Words.{codes-fit}
 use Rattle.records.proofs.Search.{starts-same, black-last}
 use Rattle.records.proofs.checks.is_black.Statement.{statement}
 use Rattle.records.proofs.checks.is_black.Tie as tie
@@ -19,7 +19,7 @@ pub is-black-spec : {M : Type 1} → statement M
 is-black-spec =
     tie.close
     (tie.spec
-    (λ c. let s = c .before in omega (arith, pow8-small (s .args .depth) (s .pre .0), s .pre .2))
+    (λ c. let s = c .before in omega (arith, codes-fit (s .args .depth) (s .pre .0), s .pre .2))
     (λ c κs. let s = c .before in record { shallow = s .pre .0; ordered = s .pre .1; rising = zero-le; within = le-refl _ })
     (λ c κs. let s = c .before .before in (s .pre .0, s .pre .1, c .first-from .ensures .high))
     returns)

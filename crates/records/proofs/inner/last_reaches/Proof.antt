@@ -7,8 +7,7 @@ use lib.Dec.{ltb}
 use lib.ListN.{getD}
 use borrow.Author.Needs.{needs}
 use Rattle.cells.specs.Cell.{proper}
-use Rattle.cells.proofs.Cells.{within}
-use Rattle.cells.proofs.Words.{pow8-small}
+use Rattle.cells.proofs.Words.{end-fits}
 use Rattle.records.proofs.Search.{proper-at, reaches-none, reaches-is}
 use Rattle.records.proofs.inner.last_reaches.Statement.{statement}
 use Rattle.records.proofs.inner.last_reaches.Tie as tie
@@ -32,7 +31,7 @@ add-result : tie.Need-add-result
 add-result c =
     let u = c .before .before .before in
     let a = s u .args in
-    omega (arith, c .before .first .ensures, c .width .ensures, within (a .depth) (leaf u) (is u), pow8-small (a .depth) (s u .pre .0))
+    omega (arith, c .before .first .ensures, c .width .ensures, end-fits (a .depth) (leaf u) (s u .pre .0) (is u))
 
 returns-2 : tie.Need-returns-2
 returns-2 c =

@@ -5,10 +5,8 @@ use Prim.Native.Nat.{ℕ, _+_, _≤_, _<_, _^_}
 use native.Mathlib.Omega.{arith}
 use borrow.Author.Needs.{needs}
 use borrow.Author.Tests.{not-true, not-false}
-use Rattle.cells.specs.Answer.{deepest}
 use Rattle.cells.specs.Cell.{proper, start, end}
-use Rattle.cells.proofs.Cells.{within}
-use Rattle.cells.proofs.Words.{pow8-small}
+use Rattle.cells.proofs.Words.{bits, codes-fit, end-fits}
 use Rattle.records.specs.Walk.{Kept}
 use Rattle.records.proofs.Walks.{stays, improper, too-early, eighth, stops, goes}
 use Rattle.records.proofs.inner.step.Statement.{statement}
@@ -39,9 +37,9 @@ module _ (c : tie.Else2) where
   is : proper (D u) (code u) ≡ true
   is = sym (c .before .is-proper .ensures) ∙ not-false _ (c .if2 .left)
 
-  -- its leaf ends within the root, and the root fits
-  small : end (D u) (code u) ≤ 8 ^ deepest
-  small = omega (arith, within (D u) (code u) is, pow8-small (D u) (s u .pre .0))
+  -- its leaf's end fits
+  small : end (D u) (code u) < 2 ^ bits
+  small = end-fits (D u) (code u) (s u .pre .0) is
 
 module _ (c : tie.Else3) where
   abbrev p : tie.Else2
@@ -109,7 +107,7 @@ step-spec =
     (λ c κs. search needs)
     returns-4
     (λ c κs. let q = p (c .before .before) in (s (u q) .pre .0, is q))
-    (λ c. let k = kept (v c) in omega (arith, k .is-passed, k .count, k .within, pow8-small (D (v c)) (s (v c) .pre .0)))
+    (λ c. let k = kept (v c) in omega (arith, k .is-passed, k .count, k .within, codes-fit (D (v c)) (s (v c) .pre .0)))
     (λ c. omega (arith, ends c, small (p (t c))))
     (λ c. let x = c .before in omega (arith, x .width .ensures, small (p (t x)), late (t x), kept (v x) .few))
     returns-5)

@@ -1,20 +1,18 @@
 -- `records::meetings::find` meets its contract: the list's tests, then the neighbour's. Assumes nothing.
 use mathlib.Core.Path.{_≡_}
 use mathlib.Core.List.{List, [], _∷_}
-use Prim.Native.Nat.{ℕ, _*_, _^_, _<_}
+use Prim.Native.Nat.{ℕ, _^_, _<_}
 use native.Mathlib.Omega.{arith}
 use lib.IntN.{ℤ}
 use borrow.Author.Needs.{needs}
 use Rattle.cells.specs.Answer.{given, Test, Decided, alone, deepest, TooDeep}
-use Rattle.cells.specs.Cell.{level}
 use Rattle.cells.specs.Place.{axes}
 use Rattle.cells.specs.Corners.{NoCell}
 use Rattle.cells.specs.Neighbour.{NoDirection, Neighbour, Outside, NeighbourOf}
 use Rattle.cells.specs.declared.Answer.{Answer}
-use Rattle.cells.proofs.Cells.{level-le, proper-bounds}
 use Rattle.cells.proofs.Decisions.{passes, deep-enough, decided-past, opening-refuses, opening-passes, opening-known}
 use Rattle.cells.proofs.NeighbourLaws.{neighbours}
-use Rattle.cells.proofs.Words.{pow8-small, signed-axes}
+use Rattle.cells.proofs.Words.{bits, code-fits, signed-axes}
 use Rattle.records.specs.Met.{unmet, MeetingOf}
 use Rattle.records.specs.declared.meetings.Meeting.{Meeting}
 use Rattle.records.proofs.CallLaws.{Checked, checks}
@@ -92,9 +90,8 @@ module _ (c : tie.Else2) where
   is-next : Neighbour (D (t (e n))) (code (t (e n))) (d (t (e n))) m
   is-next = opening-known (neighbours (D (t (e n))) (code (t (e n))) (d (t (e n)))) (n .neighbour .result) (decided n) success
 
-  small : m < 2 * 8 ^ deepest
-  small =
-      omega (arith, proper-bounds (D (t (e n))) m (is-next .is-proper) .1, pow8-small (level (D (t (e n))) m) (omega (arith, level-le (D (t (e n))) m, known (e n) .shallow)))
+  small : m < 2 ^ bits
+  small = code-fits (D (t (e n))) m (known (e n) .shallow) (is-next .is-proper)
 
 returns : tie.Need-returns
 returns c =

@@ -9,7 +9,7 @@ use lib.ListN.{length}
 use Rattle.cells.specs.Answer.{given}
 use Rattle.cells.specs.Cell.{start, end}
 use Rattle.cells.proofs.Cells.{within}
-use Rattle.cells.proofs.Words.{pow8-small}
+use Rattle.cells.proofs.Words.{end-fits}
 use Rattle.records.specs.Inner.{Starts, reaches}
 use Rattle.records.specs.Met.{MetPart}
 use Rattle.records.specs.declared.meetings.Meeting.{Meeting}
@@ -21,7 +21,7 @@ add-first-from : tie.Need-add-first-from
 add-first-from c =
     let f = c .before .before in
     let s = f .before .before in
-    omega (arith, f .first .ensures, c .width .ensures, within (s .args .depth) (s .args .m) (s .pre .2), pow8-small (s .args .depth) (s .pre .0))
+    omega (arith, f .first .ensures, c .width .ensures, end-fits (s .args .depth) (s .args .m) (s .pre .0) (s .pre .2))
 
 first-from-requires-2 : tie.Need-first-from-requires-2
 first-from-requires-2 c κs =
