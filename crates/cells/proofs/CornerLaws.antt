@@ -8,14 +8,14 @@ use lib.Dec.{leb, ltb, eqb}
 use borrow.Author.Tests.{leb-true, ltb-true, eqb-true}
 use native.Mathlib.Omega.{arith}
 use Rattle.cells.specs.Cell.{level, proper, index, side, start, span}
-use Rattle.cells.specs.Place.{axes, EachAxis, allAxes, along, number, corner}
+use Rattle.cells.specs.Place.{EachAxis, allAxes, along, number, corner}
 use Rattle.cells.specs.Answer.{alone, deepest, TooDeep}
 use Rattle.cells.specs.Corners.{NoCell, nowhere, CellAt, onGrid, isCorner, NoCorner, PlaceOf, CodeOf}
 use Rattle.cells.proofs.Decisions.{One, one-equal, one-given, one-refuses, one-decided}
 use Rattle.cells.proofs.Power.{pow2-pos, pow-split}
 use Rattle.cells.proofs.Cells.{proper-bounds, cell-of, level-le}
 use Rattle.cells.proofs.Bools.{both-true}
-use Rattle.cells.proofs.Places.{each-axis, each-true, along-lt, same-voxel, number-lt, along-number, along-first, along-last}
+use Rattle.cells.proofs.Places.{each-true, along-lt, same-voxel, number-lt, along-axes, along-first, along-last}
 
 pub side-pos : (D c : ℕ) → 0 < side D c
 unfolding side
@@ -118,22 +118,18 @@ module _ (D k x : ℕ) (h : k ≤ D) (g : OnGrid (2 ^ D) (2 ^ (D - k)) x) where
   from-sides : x / 2 ^ (D - k) * 2 ^ (D - k) ≡ x
   from-sides = omega (arith, div-add-mod' x (2 ^ (D - k)), g .multiple)
 
-pub cell-of-corner : (D x y z k : ℕ) → isCorner D (axes x y z) k ≡ true
-    → CellAt D (axes x y z) k (8 ^ k + number k (x / 2 ^ (D - k)) (y / 2 ^ (D - k)) (z / 2 ^ (D - k)))
-cell-of-corner D x y z k e =
-    let g = is-corner D (axes x y z) k e in
+pub cell-of-corner : (D : ℕ) (x : ℕ → ℕ) (k : ℕ) → isCorner D x k ≡ true → CellAt D x k (8 ^ k + number k (x 0 / 2 ^ (D - k)) (x 1 / 2 ^ (D - k)) (x 2 / 2 ^ (D - k)))
+cell-of-corner D x k e =
+    let g = is-corner D x k e in
     let s : ℕ = 2 ^ (D - k) in
-    let m : ℕ = number k (x / s) (y / s) (z / s) in
-    let small : EachAxis (λ a. axes x y z a / s < 2 ^ k) = λ a h. in-sides D k (axes x y z a) (g .deep) (g .each a h) in
-    let halved : EachAxis (λ a. axes (x / s) (y / s) (z / s) a ≡ axes x y z a / s) = each-axis _ refl refl refl in
-    let t = cell-at D k m (g .deep) (number-lt k (x / s) (y / s) (z / s)) in
+    let t = cell-at D k (number k (x 0 / s) (x 1 / s) (x 2 / s)) (g .deep) (number-lt k (x 0 / s) (x 1 / s) (x 2 / s)) in
     record {
       is-proper = t .is-proper;
       is-level = t .is-level;
       each = λ a h.
           t .is-corner (2 ^ a)
-          ∙ ap (λ (n : ℕ). n * s) (along-number a k (x / s) (y / s) (z / s) h (small 0 (omega arith)) (small 1 (omega arith)) (small 2 (omega arith)) ∙ halved a h)
-          ∙ from-sides D k (axes x y z a) (g .deep) (g .each a h);
+          ∙ ap (λ (n : ℕ). n * s) (along-axes k (λ a. x a / s) (λ a h. in-sides D k (x a) (g .deep) (g .each a h)) a h)
+          ∙ from-sides D k (x a) (g .deep) (g .each a h);
     }
 
 -- ---- no second answer

@@ -4,7 +4,7 @@ use mathlib.Core.Path.{_≡_, refl, sym, ap, _∙_}
 use Prim.Native.Nat.{ℕ, zero, suc, _+_, _-_, _*_, _/_, _%_, _^_, _<_, zero-le, suc-le-suc}
 use native.Mathlib.Nat.{pow-zero, mul-one, zero-div, add-zero, add-suc, div-one}
 use native.Mathlib.Omega.{arith}
-use mathlib.Core.Bool.{Bool, true, _&&_}
+use mathlib.Core.Bool.{Bool, true, false, _&&_}
 use Rattle.cells.specs.Place.{axes, EachAxis, allAxes, along, number}
 use Rattle.cells.proofs.Bools.{both-true}
 use Rattle.cells.proofs.Power.{pow2-suc, pow8-pos, pow8-suc, div-pow}
@@ -25,6 +25,14 @@ each-true P e =
 
 pub all-true : (P : ℕ → Bool) → EachAxis (λ a. P a ≡ true) → allAxes P ≡ true
 all-true P h = rw (h 0 (omega arith), h 1 (omega arith), h 2 (omega arith))
+
+pub some-false : (P : ℕ → Bool) → allAxes P ≡ false → (a : ℕ) × (a < 3) × (P a ≡ false)
+some-false P e = go (P 0) refl (P 1) refl e
+  where
+    go : (s : Bool) → P 0 ≡ s → (t : Bool) → P 1 ≡ t → (s && (t && P 2)) ≡ false → (a : ℕ) × (a < 3) × (P a ≡ false)
+    go false f t g h = (0, omega arith, f)
+    go true f false g h = (1, omega arith, g)
+    go true f true g h = (2, omega arith, h)
 
 -- ---- ranges
 
@@ -77,22 +85,28 @@ same-voxel n u v hu hv e =
     sym (number-along n u hu) ∙ rw (x, y, z) (number-along n v hv)
 
 -- a label's bit on an axis is that axis's
-pub label-bit : (a i j k : ℕ) → a < 3 → i < 2 → j < 2 → k < 2 → (i + 2 * j + 4 * k) / 2 ^ a % 2 ≡ axes i j k a
-label-bit a i j k h hi hj hk = each-axis (λ a. (i + 2 * j + 4 * k) / 2 ^ a % 2 ≡ axes i j k a) (omega arith) (omega arith) (omega arith) a h
+pub label-axes : (f : ℕ → ℕ) → EachAxis (λ a. f a < 2) → EachAxis (λ a. (f 0 + 2 * f 1 + 4 * f 2) / 2 ^ a % 2 ≡ f a)
+label-axes f h =
+    let x = h 0 (omega arith) in
+    let y = h 1 (omega arith) in
+    let z = h 2 (omega arith) in
+    each-axis _ (omega arith) (omega arith) (omega arith)
 
--- halves and last bits, axis by axis
-halves : (x y z : ℕ) → EachAxis (λ a. 2 * axes (x / 2) (y / 2) (z / 2) a + axes (x % 2) (y % 2) (z % 2) a ≡ axes x y z a)
-halves x y z = each-axis _ (omega arith) (omega arith) (omega arith)
+pub label-bit : (a i j k : ℕ) → a < 3 → i < 2 → j < 2 → k < 2 → (i + 2 * j + 4 * k) / 2 ^ a % 2 ≡ axes i j k a
+label-bit a i j k h hi hj hk = label-axes (axes i j k) (each-axis _ hi hj hk) a h
+
+-- and the coordinates of a voxel are those that its number was made of
+pub along-axes : (n : ℕ) (x : ℕ → ℕ) → EachAxis (λ a. x a < 2 ^ n) → EachAxis (λ a. along (2 ^ a) n (number n (x 0) (x 1) (x 2)) ≡ x a)
+unfolding number along
+along-axes zero x s a h = let e : 2 ^ 0 ≡ 1 = refl in omega (arith, s a h)
+along-axes (suc n) x s a h =
+    let ih = along-axes n (λ a. x a / 2) (λ a h. omega (arith, s a h, pow2-suc n)) a h in
+    let b = label-axes (λ a. x a % 2) (λ a h. omega arith) a h in
+    along-step (2 ^ a) n (number n (x 0 / 2) (x 1 / 2) (x 2 / 2)) (x 0 % 2 + 2 * (x 1 % 2) + 4 * (x 2 % 2)) (omega arith)
+    ∙ omega (arith, ih, b)
 
 pub along-number : (a n x y z : ℕ) → a < 3 → x < 2 ^ n → y < 2 ^ n → z < 2 ^ n → along (2 ^ a) n (number n x y z) ≡ axes x y z a
-unfolding number along
-along-number a zero x y z h hx hy hz = let e : 2 ^ 0 ≡ 1 = refl in each-axis (λ a. 0 ≡ axes x y z a) (omega arith) (omega arith) (omega arith) a h
-along-number a (suc n) x y z h hx hy hz =
-    let u = pow2-suc n in
-    let ih = along-number a n (x / 2) (y / 2) (z / 2) h (omega arith) (omega arith) (omega arith) in
-    let b = label-bit a (x % 2) (y % 2) (z % 2) h (omega arith) (omega arith) (omega arith) in
-    along-step (2 ^ a) n (number n (x / 2) (y / 2) (z / 2)) (x % 2 + 2 * (y % 2) + 4 * (z % 2)) (omega arith)
-    ∙ omega (arith, ih, b, halves x y z a h)
+along-number a n x y z h hx hy hz = along-axes n (axes x y z) (each-axis _ hx hy hz) a h
 
 -- ---- a coarser cube, of n levels fewer: its cells are the finer one's voxels divided
 

@@ -60,7 +60,7 @@ returns-3 c =
       passes (deep-enough (deep e)),
       inr (
         passes (clash (corner e)),
-        (_, cell-of-corner (a .depth) (a .x) (a .y) (a .z) (a .level) (corner e), c .success .ensures ∙ ap given (rw (n .number-of .ensures, n .before .pow8 .ensures, n .before .before .pow2 .ensures))),
+        (_, cell-of-corner (a .depth) (axes (a .x) (a .y) (a .z)) (a .level) (corner e), c .success .ensures ∙ ap given (rw (n .number-of .ensures, n .before .pow8 .ensures, n .before .before .pow2 .ensures))),
       ),
     )
 
