@@ -3,8 +3,9 @@ use mathlib.Core.Path.{_≡_, refl, sym, ap, _∙_, subst}
 use mathlib.Core.Bool.{true}
 use mathlib.Core.List.{[], _∷_}
 use Prim.Native.Nat.{ℕ, zero, suc, _+_, _-_, _*_, _/_, _%_, _^_, _<_}
-use native.Mathlib.Nat.{one-mul, zero-div, mod-eq-of-lt}
+use native.Mathlib.Nat.{one-mul, zero-div}
 use native.Mathlib.Omega.{arith}
+use lib.Dec.{eqb, eqb→eq}
 use lib.IntN.{ℤ}
 use Rattle.cells.specs.Cell.{level, proper, index, side}
 use Rattle.cells.specs.Place.{EachAxis, along, corner}
@@ -22,6 +23,7 @@ use Rattle.cells.proofs.Displacements.{displaced→, →displaced}
 use Rattle.cells.proofs.Integers.{above, below}
 use Rattle.cells.proofs.Places.{along-lt}
 use Rattle.cells.proofs.Rules.{forth}
+use Rattle.cells.proofs.Table.{at}
 use Rattle.cells.proofs.Steps.{steps, stepped-lt, carried-lt}
 
 -- ---- one axis
@@ -50,12 +52,8 @@ module _ (a : ℕ) (axis : a < 3) (k i d : ℕ) (small : d < 27) (z : ℤ) (digi
 -- a direction with no digit is none
 no-digits : (n : ℕ) → n < 27 → EachAxis (λ a. n / 3 ^ a % 3 ≡ 0) → n ≡ 0
 no-digits n h none =
-    let x : n / 1 % 3 ≡ 0 = none 0 (omega arith) in
-    let y : n / 3 % 3 ≡ 0 = none 1 (omega arith) in
-    let z : n / 9 % 3 ≡ 0 = none 2 (omega arith) in
-    let a : n / 9 ≡ 0 = sym (mod-eq-of-lt {n = n / 9} {m = 3} (omega arith)) ∙ z in
-    let b : n / 3 ≡ 0 = sym (mod-eq-of-lt {n = n / 3} {m = 3} (omega arith)) ∙ y in
-    omega arith
+    let digits : n ≡ n / 1 % 3 + 3 * (n / 3 % 3) + 9 * (n / 9 % 3) = eqb→eq _ _ (at (λ n. eqb n (n / 1 % 3 + 3 * (n / 3 % 3) + 9 * (n / 9 % 3))) 27 tt n h) in
+    omega (arith, none 0 (omega arith), none 1 (omega arith), none 2 (omega arith))
 
 -- ---- the neighbour of a proper cell
 

@@ -1,9 +1,10 @@
 -- What the search in an ordered list finds: the leaf that may hold a voxel, and the leaves that meet a cell. Assumes nothing.
 use mathlib.Core.Path.{_≡_, refl, sym, _∙_}
 use mathlib.Core.Bool.{Bool, true, false}
-use mathlib.Core.Logic.{_⊎_, inl, inr, ⊎-elim}
+use mathlib.Core.Logic.{_⊎_, ⊎-elim}
 use mathlib.Core.List.{List}
 use Prim.Native.Nat.{ℕ, suc, _-_, _≤_, _<_, zero-le}
+use native.Mathlib.Nat.{le-refl}
 use native.Mathlib.Omega.{arith}
 use lib.Dec.{ltb}
 use lib.ListN.{length, getD}
@@ -71,33 +72,25 @@ module _ (D : ℕ) (l : List ℕ) (o : Ordered D 0 l) where
   -- ---- the leaves that meet the cell m: `at` is the first that starts in it, or after it, and e the first that starts after it
 
   module _ (m at e : ℕ) (s : Starts D l (start D m) 0 (length l) at) (t : Starts D l (end D m) at (length l) e) where
-    inside : (i : ℕ) → at ≤ i → i < e → (start D m < end D (getD l i 0)) × (start D (getD l i 0) < end D m)
-    inside i a b = (omega (arith, s .above i a (omega (arith, t .high)), span-pos D (getD l i 0)), t .below i a b)
+    -- the part begins at a where the leaves before a end before the cell, and those from a up to `at` reach into it
+    part-is : (a : ℕ) → a ≤ at → ((i : ℕ) → i < a → end D (getD l i 0) ≤ start D m) → ((i : ℕ) → a ≤ i → i < at → start D m < end D (getD l i 0)) → MetPart D l m a (e - a)
+    part-is a h before reach =
+        let low = t .low in
+        let high = t .high in
+        part-made D l m a (e - a) (omega arith) before (λ i b k. t .above i (omega arith) k)
+        (λ i x y.
+        ⊎-elim (λ (g : at ≤ i). (omega (arith, s .above i g (omega arith), span-pos D (getD l i 0)), t .below i g (omega arith)))
+        (λ (g : i < at). (reach i x g, omega (arith, s .below i zero-le g, span-pos D m))) (le-or-lt at i))
+        (λ z i k. (λ x. s .below i zero-le (omega arith), λ x. ⊎-elim (λ (g : at ≤ i). absurd (omega (arith, s .above i g k))) (λ (g : i < at). omega arith) (le-or-lt at i)))
 
     pub part-from : reaches D l at (start D m) ≡ false → MetPart D l m at (e - at)
     part-from r =
-        let low = t .low in
-        let high = t .high in
-        part-made D l m at (e - at) (omega arith)
-        (λ i h. omega (arith, ends-rise D l o i (at - 1) (omega arith) (omega arith), reaches-false D l at (start D m) r (omega arith)))
-        (λ i a h. t .above i (omega arith) h)
-        (λ i a b. inside i a (omega arith))
-        (λ z i h. (λ k. s .below i zero-le k, λ k. ⊎-elim (λ (x : at ≤ i). absurd (omega (arith, s .above i x h))) (λ x. x) (le-or-lt at i)))
+        part-is at (le-refl at) (λ i h. omega (arith, ends-rise D l o i (at - 1) (omega arith) (omega (arith, s .high)), reaches-false D l at (start D m) r (omega arith)))
+        (λ i x y. absurd (omega arith))
 
     -- a bigger leaf that starts before the cell is met too
     pub part-before : reaches D l at (start D m) ≡ true → MetPart D l m (at - 1) (e - (at - 1))
     part-before r =
-        let low = t .low in
-        let high = t .high in
         let (pos, far) = reaches-true D l at (start D m) r in
-        let near = s .below (at - 1) zero-le (omega arith) in
-        part-made D l m (at - 1) (e - (at - 1)) (omega arith)
-        (λ i h. omega (arith, in-order D 0 l o i (at - 1) h (omega arith)))
-        (λ i a h. t .above i (omega arith) h)
-        (λ i a b. meet i far near (le-or-lt at i) a (omega arith))
-        (λ z i h. absurd (omega arith))
-      where
-        meet : (i : ℕ) → start D m < end D (getD l (at - 1) 0) → start D (getD l (at - 1) 0) < start D m → (at ≤ i) ⊎ (i < at) → at - 1 ≤ i → i < e
-            → (start D m < end D (getD l i 0)) × (start D (getD l i 0) < end D m)
-        meet i far near (inl x) a b = inside i x b
-        meet i far near (inr x) a b = let same : at - 1 ≡ i = omega arith in rw (← same) (far, omega (arith, near, span-pos D m))
+        part-is (at - 1) (omega arith) (λ i h. omega (arith, in-order D 0 l o i (at - 1) h (omega (arith, s .high)), s .below (at - 1) zero-le (omega arith)))
+        (λ i x y. let same : at - 1 ≡ i = omega arith in rw (← same) far)

@@ -26,7 +26,7 @@ add-first-from c =
 first-from-requires-2 : tie.Need-first-from-requires-2
 first-from-requires-2 c κs =
     let s = c .before .before .before .before in
-    record { shallow = s .pre .0; ordered = s .pre .1; rising = c .before .first-from .ensures .high; within = le-refl _ }
+    record { shallow = s .pre .0; ordered = s .pre .1; rising = omega (arith, c .before .first-from .ensures .high); within = omega (arith, c .before .first-from .ensures .high) }
 
 -- ---- what the searches found
 
