@@ -56,13 +56,13 @@ begins D l w z p a b c d = record {
 }
 
 -- a walk that has ended stays as it is
-pub stays : (D : ℕ) (l : List ℕ) (i : ℕ) (w : Walk) → Walked D l i w → (w .number ≡ 0 → ⊥) → Walked D l (i + 1) w
-stays D l i w k some = record { stopped = λ n. rw add-one (first-more (k .stopped n)); is-number = k .is-number; kept = λ z. absurd (some z) }
+pub stays : {D : ℕ} {l : List ℕ} {i : ℕ} {w : Walk} → Walked D l i w → (w .number ≡ 0 → ⊥) → Walked D l (i + 1) w
+stays k some = record { stopped = λ n. rw add-one (first-more (k .stopped n)); is-number = k .is-number; kept = λ z. absurd (some z) }
 
 lt-split : (j i : ℕ) → j < suc i → (j ≡ i) ⊎ (j < i)
 lt-split j i h = eq-or-lt-of-le (le-of-suc-le-suc h)
 
-module _ (D : ℕ) (l : List ℕ) (i : ℕ) (w : Walk) (c : ℕ) (k : Kept D l i w) (e : getD l i 0 ≡ c) where
+module _ {D : ℕ} {l : List ℕ} {i : ℕ} {w : Walk} {c : ℕ} (k : Kept D l i w) (e : getD l i 0 ≡ c) where
   next-is : runOf l (suc i) ≡ nextRun (w .last) (w .run) c
   unfolding runOf
   next-is = rw (k .is-last, k .is-run, e)

@@ -53,21 +53,21 @@ returns-2 c =
     let q = c .before .before in
     let v = q .before in
     let bad = sym (q .is-proper .ensures) ∙ not-true _ (c .before .if2 .taken) in
-    λ l i w e. let k = w .kept (going v) in stops (D v) l i _ (code v) k e _ 2 (c .ended .ensures) (λ z. omega arith) (improper (D v) l i _ (code v) k e bad)
+    λ l i w e. let k = w .kept (going v) in stops k e _ 2 (c .ended .ensures) (λ z. omega arith) (improper k e bad)
 
 returns-3 : tie.Need-returns-3
 returns-3 c =
     let q = c .before .before .before .before in
     let v = u q in
     let h : start (D v) (code v) < s v .args .walk .past = omega (arith, c .before .before .before .first .ensures, c .before .if3 .taken) in
-    λ l i w e. let k = w .kept (going v) in stops (D v) l i _ (code v) k e _ 3 (c .ended2 .ensures) (λ z. omega arith) (too-early (D v) l i _ (code v) k e (is q) h)
+    λ l i w e. let k = w .kept (going v) in stops k e _ 3 (c .ended2 .ensures) (λ z. omega arith) (too-early k e (is q) h)
 
 returns-4 : tie.Need-returns-4
 returns-4 c =
     let t = c .before .before .before in
     let v = u (p t) in
     let r = sym (c .before .before .next-run .ensures) ∙ c .before .if4 .taken in
-    λ l i w e. let k = w .kept (going v) in stops (D v) l i _ (code v) k e _ 4 (c .ended3 .ensures) (λ z. omega arith) (eighth (D v) l i _ (code v) k e (is (p t)) (late t) r)
+    λ l i w e. let k = w .kept (going v) in stops k e _ 4 (c .ended3 .ensures) (λ z. omega arith) (eighth k e (is (p t)) (late t) r)
 
 -- ---- the leaf is passed
 
@@ -90,13 +90,13 @@ returns-5 c =
     let x = c .before in
     let run = n x .next-run .ensures in
     λ l i w e.
-    goes (D (v x)) l i _ (code (v x)) (w .kept (going (v x))) e (is (p (t x))) (late (t x)) (λ z. x .before .if4 .left (run ∙ z)) _ refl refl refl (ends x) run (omega (arith, x .width .ensures))
+    goes (w .kept (going (v x))) e (is (p (t x))) (late (t x)) (λ z. x .before .if4 .left (run ∙ z)) _ refl refl refl (ends x) run (omega (arith, x .width .ensures))
 
 pub step-spec : {M : Type 1} → statement M
 step-spec =
     tie.close
     (tie.spec
-    (λ c. λ l i w e. stays (c .before .args .depth) l i _ w (c .if1 .taken))
+    (λ c. λ l i w e. stays w (c .if1 .taken))
     (λ c κs. search needs)
     (λ c κs. search needs)
     returns-2
