@@ -9,7 +9,7 @@ use lib.ListN.{length, getD, take, drop}
 use lib.Seq.{take-append-seam}
 use Rattle.cells.specs.Answer.{given, deepest}
 use Rattle.cells.specs.declared.Answer.{Answer}
-use Rattle.cells.proofs.Decisions.{passes}
+use Rattle.cells.proofs.Decisions.{passes, refuses-numbered}
 use Rattle.records.specs.Record.{Good}
 use Rattle.records.specs.Writing.{stands}
 use Rattle.records.proofs.Writing.{list-fitting}
@@ -26,48 +26,30 @@ use Rattle.blocks.proofs.CallLaws.{one-read, one-write}
 
 -- ---- what success says
 
+-- of `write`
 pub record WriteSuccess (D : ℕ) (l o : List ℕ) (r : Answer) (after : List ℕ) : Type 0 where
   pub shallow : D ≤ deepest
   pub good : Good D l
-  pub is-answer : r ≡ given (length (fileOf D l))
-  pub is-after : after ≡ stands (fileOf D l) o
+  pub is-left : _≡_ {A = Answer × List ℕ} (r, after) (given (length (fileOf D l)), stands (fileOf D l) o)
 
 pub write-success : (D : ℕ) (l o : List ℕ) (r : Answer) (after : List ℕ) → WriteOf D l o r after → r .number ≡ 0 → WriteSuccess D l o r after
-write-success D l o r after w z = go w
-  where
-    go : WriteOf D l o r after → WriteSuccess D l o r after
-    go (inl (a, (_, f), e)) = absurd (omega (arith, z, ap (λ (t : Answer × List ℕ). t .0 .number) e, ap (λ (x : Answer). x .number) f))
-    go (inr (deep, inl (a, t, e))) = absurd (faulty-numbered D l 1 a t (ap (λ (t : Answer × List ℕ). t .0 .number) (sym e) ∙ z))
-    go (inr (deep, inr (clean, inl (a, (_, f), e)))) = absurd (omega (arith, z, ap (λ (t : Answer × List ℕ). t .0 .number) e, ap (λ (x : Answer). x .number) f))
-    go (inr (deep, inr (clean, inr (short, e)))) =
-        let not-deep : deepest < D → ⊥ = λ h. deep _ (h, refl) in
-        record {
-          shallow = omega arith;
-          good = not-faulty D l 1 clean;
-          is-answer = ap (λ (t : Answer × List ℕ). t .0) e;
-          is-after = ap (λ (t : Answer × List ℕ). t .1) e;
-        }
+write-success D l o r after (inl (a, t, e)) z = absurd (refuses-numbered (λ x. omega arith) a t (ap (λ (s : Answer × List ℕ). s .0 .number) (sym e) ∙ z))
+write-success D l o r after (inr (deep, inl (a, t, e))) z = absurd (faulty-numbered D l 1 a t (ap (λ (s : Answer × List ℕ). s .0 .number) (sym e) ∙ z))
+write-success D l o r after (inr (deep, inr (clean, inl (a, t, e)))) z = absurd (refuses-numbered (λ x. omega arith) a t (ap (λ (s : Answer × List ℕ). s .0 .number) (sym e) ∙ z))
+write-success D l o r after (inr (deep, inr (clean, inr (_, e)))) z = let not-deep : deepest < D → ⊥ = λ h. deep _ (h, refl) in record { shallow = omega arith; good = not-faulty D l 1 clean; is-left = e }
 
+-- of `read`
 pub record ReadSuccess (b o : List ℕ) (r : Reading) (after : List ℕ) : Type 0 where
   pub is-sound : Sound b
   pub good : Good (depthOf b) (codes b)
-  pub is-reading : r ≡ record { answer = given (length (codes b)); depth = depthOf b }
-  pub is-after : after ≡ stands (codes b) o
+  pub is-left : _≡_ {A = Reading × List ℕ} (r, after) (record { answer = given (length (codes b)); depth = depthOf b }, stands (codes b) o)
 
 pub read-success : (b o : List ℕ) (r : Reading) (after : List ℕ) → ReadOf b o r after → r .answer .number ≡ 0 → ReadSuccess b o r after
-read-success b o r after w z = go w
-  where
-    go : ReadOf b o r after → ReadSuccess b o r after
-    go (inl (a, t, e)) = absurd (unsound-numbered b a t (ap (λ (t : Reading × List ℕ). t .0 .answer .number) (sym e) ∙ z))
-    go (inr (unsound, inl (a, t, e))) = absurd (faulty-numbered (depthOf b) (codes b) 1 a t (ap (λ (t : Reading × List ℕ). t .0 .answer .number) (sym e) ∙ z))
-    go (inr (unsound, inr (clean, inl (a, (_, f), e)))) = absurd (omega (arith, z, ap (λ (t : Reading × List ℕ). t .0 .answer .number) e, ap (λ (x : Answer). x .number) f))
-    go (inr (unsound, inr (clean, inr (short, e)))) =
-        record {
-          is-sound = not-unsound b unsound;
-          good = not-faulty (depthOf b) (codes b) 1 clean;
-          is-reading = ap (λ (t : Reading × List ℕ). t .0) e;
-          is-after = ap (λ (t : Reading × List ℕ). t .1) e;
-        }
+read-success b o r after (inl (a, t, e)) z = absurd (unsound-numbered b a t (ap (λ (s : Reading × List ℕ). s .0 .answer .number) (sym e) ∙ z))
+read-success b o r after (inr (unsound, inl (a, t, e))) z = absurd (faulty-numbered (depthOf b) (codes b) 1 a t (ap (λ (s : Reading × List ℕ). s .0 .answer .number) (sym e) ∙ z))
+read-success b o r after (inr (unsound, inr (clean, inl (a, t, e)))) z = absurd (refuses-numbered (λ x. omega arith) a t (ap (λ (s : Reading × List ℕ). s .0 .answer .number) (sym e) ∙ z))
+read-success b o r after (inr (unsound, inr (clean, inr (_, e)))) z =
+    record { is-sound = not-unsound b unsound; good = not-faulty (depthOf b) (codes b) 1 clean; is-left = e }
 
 -- ---- the answers that fit
 
@@ -95,7 +77,7 @@ pub written-read : (D : ℕ) (l o : List ℕ) (r : Answer) (o' : List ℕ) → W
     → (s ≡ record { answer = given (length l); depth = D }) × (q' ≡ stands l q)
 written-read D l o r o' w z q s q' d room =
     let k = write-success D l o r o' w z in
-    let front : take (r .place) o' ≡ fileOf D l = ap₂ take (ap (λ (a : Answer). a .place) (k .is-answer)) (k .is-after) ∙ take-append-seam (fileOf D l) (drop (length (fileOf D l)) o) in
+    let front : take (r .place) o' ≡ fileOf D l = ap₂ take (ap (λ (t : Answer × List ℕ). t .0 .place) (k .is-left)) (ap (λ (t : Answer × List ℕ). t .1) (k .is-left)) ∙ take-append-seam (fileOf D l) (drop (length (fileOf D l)) o) in
     let e = one-read (fileOf D l) q (s, q') (record { answer = given (length l); depth = D }, stands l q) (subst (λ (b : List ℕ). ReadOf b q s q') front d) (reads-file D l q (k .shallow) (k .good) room) in
     (ap (λ (t : Reading × List ℕ). t .0) e, ap (λ (t : Reading × List ℕ). t .1) e)
 
@@ -105,8 +87,8 @@ pub read-written : (b o : List ℕ) (r : Reading) (o' : List ℕ) → ReadOf b o
     → (a ≡ given (length b)) × (q' ≡ stands b q)
 read-written b o r o' d z small q a q' w room =
     let k = read-success b o r o' d z in
-    let depth : r .depth ≡ depthOf b = ap (λ (x : Reading). x .depth) (k .is-reading) in
-    let front : take (r .answer .place) o' ≡ codes b = ap₂ take (ap (λ (x : Reading). x .answer .place) (k .is-reading)) (k .is-after) ∙ take-append-seam (codes b) (drop (length (codes b)) o) in
+    let depth : r .depth ≡ depthOf b = ap (λ (t : Reading × List ℕ). t .0 .depth) (k .is-left) in
+    let front : take (r .answer .place) o' ≡ codes b = ap₂ take (ap (λ (t : Reading × List ℕ). t .0 .answer .place) (k .is-left)) (ap (λ (t : Reading × List ℕ). t .1) (k .is-left)) ∙ take-append-seam (codes b) (drop (length (codes b)) o) in
     let w' : WriteOf (depthOf b) (codes b) q a q' = rw (depth, front) at w in
     let e = one-write (depthOf b) (codes b) q (a, q') (given (length b), stands b q) w' (writes-codes b q (k .is-sound) small (k .good) room) in
     (ap (λ (t : Answer × List ℕ). t .0) e, ap (λ (t : Answer × List ℕ). t .1) e)

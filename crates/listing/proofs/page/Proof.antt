@@ -50,13 +50,13 @@ module _ (c : tie.Else1) where
 
   -- the codes read are the file's
   is-place : d .read .result .answer .place ≡ length (codes b)
-  is-place = ap (λ (x : Reading). x .answer .place) (file .is-reading)
+  is-place = ap (λ (t : Reading × List ℕ). t .0 .answer .place) (file .is-left)
 
   is-depth : d .read .result .depth ≡ depthOf b
-  is-depth = ap (λ (x : Reading). x .depth) (file .is-reading)
+  is-depth = ap (λ (t : Reading × List ℕ). t .0 .depth) (file .is-left)
 
   front : take (d .read .result .answer .place) (d .read .last .1 .0) ≡ codes b
-  front = ap₂ take is-place (file .is-after) ∙ take-append-seam (codes b) (drop (length (codes b)) (s .args .codes .now))
+  front = ap₂ take is-place (ap (λ (t : Reading × List ℕ). t .1) (file .is-left)) ∙ take-append-seam (codes b) (drop (length (codes b)) (s .args .codes .now))
 
   -- they fit
   few : length (codes b) ≤ mostCodes
