@@ -37,13 +37,13 @@ module _ (t o e : List ℕ) (need : ℕ) (p : Put (take 0 o) 0 t e need) where
 -- ---- past `volume`
 
 -- what the answer `given v` says
-pub record Measured (D : ℕ) (l : List ℕ) (v : ℕ) : Type 0 where
+pub record GoodVolume (D : ℕ) (l : List ℕ) (v : ℕ) : Type 0 where
   pub shallow : D ≤ deepest
   pub good : Good D l
   pub few : length l ≤ 8 ^ D
   pub is-volume : v ≡ count (black D l) (8 ^ D)
 
-pub measures : (D : ℕ) (l : List ℕ) → Opening (TooDeep deepest D ∷ Faulty D l 1 ∷ []) (λ r. r ≡ given (count (black D l) (8 ^ D))) (λ r. Measured D l (r .place))
+pub measures : (D : ℕ) (l : List ℕ) → Opening (TooDeep deepest D ∷ Faulty D l 1 ∷ []) (λ r. r ≡ given (count (black D l) (8 ^ D))) (λ r. GoodVolume D l (r .place))
 measures D l = record {
   numbered = checks D l .numbered;
   succeeds = λ r e. ap (λ (a : Answer). a .number) e;

@@ -10,7 +10,7 @@ use Rattle.records.proofs.Writing.{list-refused, list-written}
 use Rattle.text.specs.Text.{listing, textOf, TextOf}
 use Rattle.text.specs.Inner.{Put}
 use Rattle.text.proofs.Puts.{put-as}
-use Rattle.text.proofs.CallLaws.{text-short, text-stands, Measured, measures}
+use Rattle.text.proofs.CallLaws.{text-short, text-stands, GoodVolume, measures}
 use Rattle.cells.proofs.Decisions.{opening-known}
 use Rattle.text.proofs.list_text.Statement.{statement}
 use Rattle.text.proofs.list_text.Tie as tie
@@ -40,7 +40,7 @@ module _ (c : tie.Else1) where
   none : v .volume .result .number ≡ 0
   none = search needs
 
-  good : Measured (s v .args .depth) (l v) (v .volume .result .place)
+  good : GoodVolume (s v .args .depth) (l v) (v .volume .result .place)
   good = opening-known (measures (s v .args .depth) (l v)) (v .volume .result) (v .volume .ensures) none
 
   -- the text that is put is the listing

@@ -16,14 +16,14 @@ module _ (c : tie.After-answer) where
   abbrev b : List ℕ
   b = c .before .before .before .args .bytes .now
 
-  abbrev Told : Answer → Type 0
-  Told r = r ≡ given (blacks (depthOf b) (codes b))
+  abbrev Done : Answer → Type 0
+  Done r = r ≡ given (blacks (depthOf b) (codes b))
 
 returns : tie.Need-returns
 returns c =
     let t = c .before in
     let r = t .before .holding-of in
-    opening-refuses (judges-file (b t)) (r .result .answer) (r .ensures .tells) alone [] (Told t) (c .if1 .taken)
+    opening-refuses (judges-file (b t)) (r .result .answer) (r .ensures .tells) alone [] (Done t) (c .if1 .taken)
 
 returns-2 : tie.Need-returns-2
 returns-2 c =
@@ -31,7 +31,7 @@ returns-2 c =
     let r = t .before .holding-of in
     let z : r .result .answer .number ≡ 0 = search needs in
     let (k, _) = opening-known (judges-file (b t)) (r .result .answer) (r .ensures .tells) z in
-    opening-passes (judges-file (b t)) (r .result .answer) (r .ensures .tells) alone [] (Told t) _ z
+    opening-passes (judges-file (b t)) (r .result .answer) (r .ensures .tells) alone [] (Done t) _ z
     (c .success .ensures ∙ ap given (r .ensures .is-voxels z ∙ sym (list-volume (depthOf (b t)) 0 (codes (b t)) (k .good .ordered))))
 
 pub stored-volume-spec : {M : Type 1} → statement M
