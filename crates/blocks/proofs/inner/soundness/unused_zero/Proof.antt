@@ -1,10 +1,9 @@
 -- `blocks::inner::soundness::unused_zero` meets its contract. Assumes nothing.
-use mathlib.Core.Path.{_≡_, sym, ap, _∙_}
-use mathlib.Core.Bool.{true}
-use mathlib.Core.Logic.{⊎-elim}
+use mathlib.Core.Path.{_≡_, sym, _∙_}
+use mathlib.Core.Bool.{Bool, true}
 use Prim.Native.Nat.{ℕ, _+_, _-_, _≤_, _<_}
-use native.Mathlib.Nat.{eq-or-lt-of-le}
 use native.Mathlib.Omega.{arith}
+use borrow.Author.Count.{below-more}
 use borrow.Author.Needs.{needs}
 use borrow.Author.Tests.{eqb-true, eq-eqb}
 use lib.Dec.{eqb}
@@ -17,30 +16,40 @@ use Rattle.blocks.proofs.inner.soundness.unused_zero.Statement.{stateme
 use Rattle.blocks.proofs.inner.soundness.unused_zero.Tie as tie
 
 abbrev Inv-loop : tie.InvT-loop
-Inv-loop bytes i k w₀ w = (w ≤ 126) × (4 + k ≤ w) × ((v : ℕ) → 4 + k ≤ v → v < w → eqb (word bytes i v) 0 ≡ true)
+Inv-loop bytes i k w₀ w = (w ≤ 126) × (4 + k ≤ w) × ((v : ℕ) → v < w → 4 + k ≤ v → eqb (word bytes i v) 0 ≡ true)
 
 abbrev μ-loop : tie.MeasureT-loop
 μ-loop bytes i k w₀ w = 126 - w
 
+-- ---- the word at w
+
+module _ (c : tie.After-word-at Inv-loop μ-loop) where
+  abbrev h : tie.At-loop Inv-loop μ-loop
+  h = c .before .before
+
+  abbrev a : tie.Start Inv-loop μ-loop
+  a = h .before .before
+
+  abbrev zero-at : ℕ → Bool
+  zero-at v = eqb (word (a .args .bytes .now) (a .args .i) v) 0
+
 returns : tie.Need-returns Inv-loop μ-loop
 returns c =
-    let a = c .before .before .before .before .before .args in
-    let L = c .before .before .before .loop in
-    let v = c .before .word-at .ensures in
-    sym (refuted (allFrom (λ w. eqb (word (a .bytes .now) (a .i) w) 0) (4 + a .k) (122 - a .k))
-    (λ t. c .if1 .taken (v ∙ eqb-true (word (a .bytes .now) (a .i) (L .w)) 0 (all-true (λ w. eqb (word (a .bytes .now) (a .i) w) 0) (4 + a .k) (122 - a .k) t (L .w) (L .inv .1) (omega arith)))))
+    let p = c .before in
+    let k = a p .args .k in
+    sym (refuted (allFrom (zero-at p) (4 + k) (122 - k)) (λ t. c .if1 .taken (p .word-at .ensures ∙ eqb-true _ 0 (all-true (zero-at p) (4 + k) (122 - k) t (h p .loop .w) (h p .loop .inv .1) (omega arith)))))
 
 loop-again : tie.Need-loop-again Inv-loop μ-loop
 loop-again c =
-    let a = c .before .before .before .before .before .args in
-    let L = c .before .before .before .loop in
-    let z : c .before .word-at .result ≡ 0 = search needs in
-    (omega arith, omega arith, λ v x y. ⊎-elim (λ (e : v ≡ L .w). ap (λ (n : ℕ). eqb (word (a .bytes .now) (a .i) n) 0) e ∙ eq-eqb (word (a .bytes .now) (a .i) (L .w)) 0 (sym (c .before .word-at .ensures) ∙ z)) (λ (h : v < L .w). L .inv .2 v x h) (eq-or-lt-of-le {n = v} {m = L .w} (omega arith)))
+    let p = c .before in
+    let z : p .word-at .result ≡ 0 = search needs in
+    (search needs, search needs, below-more _ _ (h p .loop .inv .2) (λ _. eq-eqb _ 0 (sym (p .word-at .ensures) ∙ z)))
 
 returns-2 : tie.Need-returns-2 Inv-loop μ-loop
 returns-2 c =
-    let a = c .before .before .before .args in
-    sym (all-made (λ w. eqb (word (a .bytes .now) (a .i) w) 0) (4 + a .k) (122 - a .k) (λ v lo hi. c .before .loop .inv .2 v lo (omega arith)))
+    let h = c .before in
+    let a = h .before .before .args in
+    sym (all-made (λ w. eqb (word (a .bytes .now) (a .i) w) 0) (4 + a .k) (122 - a .k) (λ v lo hi. h .loop .inv .2 v (omega arith) lo))
 
 pub unused-zero-spec : {M : Type 1} → statement M
 unused-zero-spec =
@@ -48,11 +57,11 @@ unused-zero-spec =
     (tie.spec
     Inv-loop
     μ-loop
-    (λ c. omega arith)
-    (λ c. (omega arith, omega arith, λ v a b. absurd (omega arith)))
-    (λ c κs. omega arith)
+    (λ c. search needs)
+    (λ c. (search needs, search needs, λ v a b. absurd (omega arith)))
+    (λ c κs. search needs)
     returns
-    (λ c. omega arith)
-    (λ c. omega arith)
+    (λ c. search needs)
+    (λ c. search needs)
     loop-again
     returns-2)
