@@ -14,15 +14,15 @@ use Rattle.sets.specs.declared.inner.Cursor.{Cursor}
 use Rattle.sets.specs.Inner.{Behind, Points, Steady}
 
 -- at the beginning all leaves are ahead
-pub behind-none : (D : ℕ) (l : List ℕ) → Ordered D 0 l → Behind D l 0 0
-behind-none D l o = record { root = omega arith; rest = λ w h. refl; ordered = o }
+pub behind-none : {D : ℕ} {l : List ℕ} → Ordered D 0 l → Behind D l 0 0
+behind-none o = record { root = omega arith; rest = λ w h. refl; ordered = o }
 
 -- ---- setting a cursor
 
 -- no leaf is left
-pub points-end : (D : ℕ) (l : List ℕ) (i v e : ℕ) → e ≡ 8 ^ D → length l ≤ i → Behind D l i v → Points D l (record { at = length l; from = e; to = e }) v
+pub points-end : {D : ℕ} {l : List ℕ} {i v e : ℕ} → e ≡ 8 ^ D → length l ≤ i → Behind D l i v → Points D l (record { at = length l; from = e; to = e }) v
 unfolding Ordered black
-points-end D l i v e full h b = record {
+points-end {D} {l} {i} {v} {e} full h b = record {
   within = omega arith;
   order = omega arith;
   some = λ k. absurd (omega arith);
@@ -43,7 +43,7 @@ points-end D l i v e full h b = record {
     white w k = b .rest w k ∙ ap (λ (m : List ℕ). black D m w) (drop-of-length-le l h)
 
 -- a leaf is left: its code, and the leaves after it
-module _ (D : ℕ) (l : List ℕ) (i v : ℕ) (h : i < length l) (b : Behind D l i v) where
+module _ {D : ℕ} {l : List ℕ} {i v : ℕ} (h : i < length l) (b : Behind D l i v) where
   abbrev c : ℕ
   c = getD l i 0
 
@@ -54,9 +54,9 @@ module _ (D : ℕ) (l : List ℕ) (i v : ℕ) (h : i < length l) (b : Behind D l
   unfolding Ordered
   head-proper = head .0
 
-  pub points-at : (from to : ℕ) → from ≡ start D c → to ≡ start D c + span D c → Points D l (record { at = i; from = from; to = to }) v
+  pub points-at : {from to : ℕ} → from ≡ start D c → to ≡ start D c + span D c → Points D l (record { at = i; from = from; to = to }) v
   unfolding Ordered
-  points-at from to e f = record {
+  points-at {from} {to} e f = record {
     within = omega arith;
     order = omega arith;
     some = λ k. omega (arith, span-pos D c);
@@ -75,7 +75,7 @@ module _ (D : ℕ) (l : List ℕ) (i v : ℕ) (h : i < length l) (b : Behind D l
 
 -- ---- looking and moving
 
-module _ (D : ℕ) (l : List ℕ) (c : Cursor) (v : ℕ) (p : Points D l c v) where
+module _ {D : ℕ} {l : List ℕ} {c : Cursor} {v : ℕ} (p : Points D l c v) where
   -- in the leaf
   pub steady-black : v < 8 ^ D → c .from ≤ v → Steady D l c v (record { black = true; until = c .to })
   steady-black h g = record { some = p .ahead h; reach = omega arith; same = λ w k m. p .inside w (omega arith) m }
@@ -85,8 +85,8 @@ module _ (D : ℕ) (l : List ℕ) (c : Cursor) (v : ℕ) (p : Points D l c v) wh
   steady-white h = record { some = h; reach = p .order; same = λ w k m. p .before w k m }
 
   -- to a later voxel before the leaf's end
-  pub points-later : (w : ℕ) → v ≤ w → (w < 8 ^ D → w < c .to) → Points D l c w
-  points-later w h g = record {
+  pub points-later : {w : ℕ} → v ≤ w → (w < 8 ^ D → w < c .to) → Points D l c w
+  points-later {w} h g = record {
     within = p .within;
     order = p .order;
     some = p .some;
@@ -97,5 +97,5 @@ module _ (D : ℕ) (l : List ℕ) (c : Cursor) (v : ℕ) (p : Points D l c v) wh
   }
 
   -- to its end
-  pub behind-next : (w : ℕ) → w ≤ c .to → c .to ≤ w → Behind D l (c .at + 1) w
-  behind-next w h g = subst₂ (λ (i x : ℕ). Behind D l i x) (omega arith) (omega arith) (p .behind)
+  pub behind-next : {w : ℕ} → w ≤ c .to → c .to ≤ w → Behind D l (c .at + 1) w
+  behind-next {w} h g = subst₂ (λ (i x : ℕ). Behind D l i x) (omega arith) (omega arith) (p .behind)

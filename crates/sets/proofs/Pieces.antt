@@ -70,8 +70,8 @@ module _ {op : Op} {D : ℕ} {a b : List ℕ} {x y : Cursor} {v : ℕ} where
   unfolding both
   jump {o} {out} {r} {w} e s = record {
     fed = fed-then D (both op D a b) (s .fed) (fed-white D (both op D a b) v w out r (omega arith) (omega (arith, s .fed .ready .root, p .order, p .behind .root)) white (s .fed .ready));
-    left = points-later D a x v p w (omega arith) (reached p (omega arith));
-    right = points-later D b y v q w (omega arith) (reached q (omega arith));
+    left = points-later p (omega arith) (reached p (omega arith));
+    right = points-later q (omega arith) (reached q (omega arith));
   }
     where
       p : Points D a x v

@@ -11,17 +11,6 @@ use Rattle.sets.proofs.Cursors.{head-proper, points-end, points-at}
 use Rattle.sets.proofs.inner.load.Statement.{statement}
 use Rattle.sets.proofs.inner.load.Tie as tie
 
-returns : tie.Need-returns
-returns c = λ v b.
-    let s = c .before .before .before in
-    points-end (s .args .depth) (s .args .list .now) (s .args .i) v (c .before .pow8 .result) (c .before .pow8 .ensures) (c .if1 .taken) b
-
-width-requires : tie.Need-width-requires
-width-requires c κs =
-    let s = c .before .before .before .before in
-    let (v, b) = s .pre .1 in
-    (s .pre .0, head-proper (s .args .depth) (s .args .list .now) (s .args .i) v (c .before .if1 .left) b)
-
 -- the leaf's numbers
 module _ (c : tie.After-width) where
   abbrev begun : tie.Start
@@ -39,27 +28,20 @@ module _ (c : tie.After-width) where
   numbers : (code * w ≡ c .before .before .before .pow8 .result + start depth code) × (start depth code + w ≤ 8 ^ 10) × (8 ^ depth ≤ 8 ^ 10) × (0 < w)
   numbers =
       let (v, b) = begun .pre .1 in
-      let p = head-proper depth (begun .args .list .now) (begun .args .i) v (c .before .before .if1 .left) b in
+      let p = head-proper (c .before .before .if1 .left) b in
       let e : code * w ≡ 8 ^ depth + start depth code = ap (λ (x : ℕ). code * x) (c .width .ensures) ∙ interval depth code p in
       omega (arith, e, c .before .before .before .pow8 .ensures, c .width .ensures, within depth code p, pow8-small depth (begun .pre .0), span-pos depth code)
-
-returns-2 : tie.Need-returns-2
-returns-2 c = λ v b.
-    let s = begun c in
-    points-at (s .args .depth) (s .args .list .now) (s .args .i) v (c .before .before .if1 .left) b _ _
-    (omega (arith, numbers c))
-    (omega (arith, numbers c, c .width .ensures))
 
 pub load-spec : {M : Type 1} → statement M
 load-spec =
     tie.close
     (tie.spec
     (λ c κs. search needs)
-    returns
+    (λ c v b. points-end (c .before .pow8 .ensures) (c .if1 .taken) b)
     (λ c. search needs)
     (λ c. search needs)
-    width-requires
+    (λ c κs. let p = c .before .before .before .before .pre in (p .0, head-proper (c .before .if1 .left) (p .1 .1)))
     (λ c. omega (arith, numbers c))
     (λ c. omega (arith, numbers c))
     (λ c. omega (arith, numbers c))
-    returns-2)
+    (λ c v b. points-at (c .before .before .if1 .left) b (omega (arith, numbers c)) (omega (arith, numbers c, c .width .ensures))))

@@ -6,29 +6,19 @@ use Rattle.sets.proofs.Cursors.{points-later, behind-next}
 use Rattle.sets.proofs.inner.pass.Statement.{statement}
 use Rattle.sets.proofs.inner.pass.Tie as tie
 
-returns : tie.Need-returns
-returns c =
-    let s = c .before .before .before in
-    let a = s .args in
-    let (v, h, p) = s .pre .2 in
-    points-later (a .depth) (a .list .now) (a .c) v p (a .next) h (λ _. c .if1 .taken)
+module _ (c : tie.Else1) where
+  abbrev start : tie.Start
+  start = c .before .before .before
 
-add-load : tie.Need-add-load
-add-load c = let (v, h, p) = c .before .before .before .before .pre .2 in omega (arith, p .within)
-
--- the leaf's end is reached
-ended : (c : tie.Else1) → Behind (c .before .before .before .args .depth) (c .before .before .before .args .list .now) (c .before .before .before .args .c .at + 1) (c .before .before .before .args .next)
-ended c =
-    let s = c .before .before .before in
-    let a = s .args in
-    let (v, h, p) = s .pre .2 in
-    behind-next (a .depth) (a .list .now) (a .c) v p (a .next) (s .pre .1) (c .if1 .left)
-
-load-requires : tie.Need-load-requires
-load-requires c κs = let s = c .before .before .before .before in (s .pre .0, (s .args .next, ended (c .before)))
-
-returns-2 : tie.Need-returns-2
-returns-2 c = c .load .ensures (c .before .before .before .before .before .args .next) (ended (c .before .before))
+  -- the leaf's end is reached
+  ended : Behind (start .args .depth) (start .args .list .now) (start .args .c .at + 1) (start .args .next)
+  ended = behind-next (start .pre .2 .2) (start .pre .1) (c .if1 .left)
 
 pub pass-spec : {M : Type 1} → statement M
-pass-spec = tie.close (tie.spec returns add-load load-requires returns-2)
+pass-spec =
+    tie.close
+    (tie.spec
+    (λ c. let (v, h, p) = c .before .before .before .pre .2 in points-later p h (λ _. c .if1 .taken))
+    (λ c. omega (arith, start (c .before) .pre .2 .2 .within))
+    (λ c κs. (start (c .before) .pre .0, (start (c .before) .args .next, ended (c .before))))
+    (λ c. c .load .ensures _ (ended (c .before .before))))

@@ -26,8 +26,8 @@ loop-holds c =
     jump (omega (arith, c .least .ensures))
     (record {
       fed = fed-none _ _ 0 _ (fresh 0 0) (record { run = omega arith; past = omega arith; few = omega arith; root = omega arith });
-      left = c .before .before .load .ensures 0 (behind-none _ _ (s .pre .1));
-      right = c .before .load2 .ensures 0 (behind-none _ _ (s .pre .2));
+      left = c .before .before .load .ensures 0 (behind-none (s .pre .1));
+      right = c .before .load2 .ensures 0 (behind-none (s .pre .2));
     })
 
 -- what a turn looks at
@@ -87,8 +87,8 @@ sweep-spec =
     Inv-loop
     μ-loop
     (λ c κs. c .before .before .before .pre .0)
-    (λ c κs. let p = c .before .before .before .before .pre in (p .0, (0, behind-none _ _ (p .1))))
-    (λ c κs. let p = c .before .before .before .before .before .pre in (p .0, (0, behind-none _ _ (p .2))))
+    (λ c κs. let p = c .before .before .before .before .pre in (p .0, (0, behind-none (p .1))))
+    (λ c κs. let p = c .before .before .before .before .before .pre in (p .0, (0, behind-none (p .2))))
     (λ c κs. tt)
     loop-holds
     (λ c κs. tt)
