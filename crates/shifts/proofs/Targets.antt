@@ -15,7 +15,7 @@ use Rattle.emit.specs.Inner.{Ready, fresh}
 use Rattle.emit.specs.declared.inner.Runs.{Runs}
 use Rattle.shifts.specs.LabelSums.{sumLabel, carryLabel, Uses}
 use Rattle.shifts.specs.Shift.{shift, carry, cellOf, need, shifted}
-use Rattle.records.specs.Slot.{Source, Of, OfCell, SlotTint, tintOf, slotAt}
+use Rattle.records.specs.Slot.{Source, Of, tintOf, slotAt}
 use Rattle.shifts.specs.Descent.{Slots, OfCells, Divided, SlotsTint, Copying, Copies, Aimed, Divides, partAt}
 use Rattle.shifts.specs.declared.inner.descent.Target.{Target}
 use Rattle.records.specs.declared.slots.Slot.{Slot}

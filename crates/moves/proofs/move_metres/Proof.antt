@@ -1,5 +1,5 @@
 -- `moves::move_metres` meets its contract: what the metres become decides, then the move by whole voxels. Assumes nothing.
-use mathlib.Core.Path.{_≡_, sym, subst}
+use mathlib.Core.Path.{sym, subst}
 use mathlib.Core.List.{List}
 use Prim.Native.Nat.{ℕ}
 use borrow.Author.Needs.{needs}

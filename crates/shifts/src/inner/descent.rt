@@ -14,7 +14,7 @@ use records::slots::Tint;
 use records::slots::cell_from;
 use records::slots::tint_slot;
 ghost use mathlib.Core.Bool.{Bool};
-ghost use Prim.Native.Nat.{ℕ, suc, _+_, _*_, _≤_, _<_, _^_};
+ghost use Prim.Native.Nat.{ℕ, suc, _+_, _*_, _<_, _^_};
 ghost use Rattle.emit.specs.Inner.{Fed, Result};
 ghost use Rattle.shifts.specs.Shift.{shifted};
 ghost use Rattle.records.specs.Slot.{Source, Of, SlotTint};

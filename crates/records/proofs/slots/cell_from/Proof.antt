@@ -1,5 +1,4 @@
 -- `records::slots::cell_from` meets its contract: the slot's first leaf lies in the cell. Assumes nothing.
-use Prim.Native.Nat.{_/_}
 use native.Mathlib.Nat.{div-add-mod'}
 use native.Mathlib.Omega.{arith}
 use borrow.Author.Needs.{needs}

@@ -1,7 +1,7 @@
 -- `records::slots::cut_slot` meets its contract. The loop's invariant: the parts before child m are cut, and i is the cut before it. Assumes nothing.
-use mathlib.Core.Path.{_≡_, refl, sym, ap, _∙_, subst}
+use mathlib.Core.Path.{_≡_, refl, ap, _∙_}
 use mathlib.Core.List.{List}
-use Prim.Native.Nat.{ℕ, suc, _+_, _-_, _*_, _^_, _≤_}
+use Prim.Native.Nat.{ℕ, suc, _+_, _-_, _*_, _^_}
 use native.Mathlib.Nat.{zero-mul}
 use native.Mathlib.Numerals.{add-one}
 use native.Mathlib.Omega.{arith}
@@ -10,7 +10,7 @@ use lib.ListN.{getD}
 use Rattle.cells.proofs.Cells.{within}
 use Rattle.cells.proofs.Words.{pow8-small}
 use Rattle.records.specs.Inner.{Starts}
-use Rattle.records.specs.Slot.{Of, OfCell}
+use Rattle.records.specs.Slot.{Of}
 use Rattle.records.specs.declared.slots.Slot.{Slot}
 use Rattle.records.proofs.Arrays.{Prefix, prefix-none, prefix-more}
 use Rattle.records.proofs.Edges.{edge, edge-next, inside}

@@ -1,6 +1,6 @@
 -- `sets::inner::sweep` meets its contract. The loop's invariant: the emitter has what is black below v, and each cursor is at its list's first leaf that ends
 -- after v. A turn looks up to where both lists keep their colour, hands that piece to the emitter, moves the cursors and jumps to the next leaf. Assumes nothing.
-use mathlib.Core.Path.{_≡_, sym, ap, _∙_}
+use mathlib.Core.Path.{sym, ap, _∙_}
 use mathlib.Core.Bool.{Bool}
 use Prim.Native.Nat.{ℕ, _-_, _^_, _<_}
 use native.Mathlib.Omega.{arith}

@@ -1,5 +1,5 @@
 -- `shifts::inner::descent::copy_slot` meets its contract: no leaf, a leaf that has all of the cell, smaller leaves. Assumes nothing.
-use mathlib.Core.Path.{_≡_, ap, _∙_, subst, subst₂}
+use mathlib.Core.Path.{_≡_, ap, _∙_, subst₂}
 use mathlib.Core.Bool.{Bool, true, false}
 use Prim.Native.Nat.{ℕ, _+_, _-_, _*_, _^_, _≤_, _<_}
 use native.Mathlib.Omega.{arith}

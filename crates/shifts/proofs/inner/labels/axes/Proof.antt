@@ -1,6 +1,6 @@
 -- `shifts::inner::labels::axes` meets its contract. The loop's invariant: f has the axes of the last n labels, and the others are left. Assumes nothing.
 use mathlib.Core.Path.{_≡_, refl, _∙_}
-use Prim.Native.Nat.{ℕ, suc, _-_, _/_, _%_, _^_, _≤_}
+use Prim.Native.Nat.{ℕ, _-_, _/_, _^_, _≤_}
 use native.Mathlib.Nat.{pow-zero, div-one}
 use native.Mathlib.Numerals.{add-one}
 use native.Mathlib.Omega.{arith}
