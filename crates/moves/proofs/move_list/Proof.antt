@@ -3,16 +3,12 @@ use mathlib.Core.Path.{_≡_, refl, sym, subst}
 use mathlib.Core.List.{List}
 use Prim.Native.Nat.{ℕ}
 use borrow.Author.Needs.{needs}
-use lib.IntN.{ℤ}
-use mir.Syntax.{w32}
-use mir.Val.{toZ, ofZ}
-use mir.Facts.{toZ-ofZ}
 use Rattle.cells.specs.Answer.{Decided, keeping}
-use Rattle.cells.specs.Place.{axes}
 use Rattle.cells.specs.declared.Answer.{Answer}
 use Rattle.cells.proofs.Decisions.{opening-refuses, opening-passes, opening-known}
 use Rattle.cells.proofs.Places.{each-axis}
 use Rattle.records.proofs.CallLaws.{Checked, checks}
+use Rattle.cells.proofs.Words.{signed-axes}
 use Rattle.metres.specs.Metres.{moveTests}
 use Rattle.metres.specs.declared.Move.{Move}
 use Rattle.metres.specs.declared.Move.the-variants as the-move
@@ -32,11 +28,12 @@ module _ (c : tie.Else1) where
   pass : Checked (s .args .depth) (s .args .list .now) (c .before .check .result .place)
   pass = opening-known (checks (s .args .depth) (s .args .list .now)) (c .before .check .result) (c .before .check .ensures) none
 
-  next : (t : Answer × List ℕ) → Decided (keeping (s .args .out .now)) (moveTests (s .args .m)) (ByVoxels (s .args .depth) (s .args .list .now) (s .args .m) (s .args .out .now)) t
+  next : (t : Answer × List ℕ) {m : Move} → s .args .m ≡ m → Decided (keeping (s .args .out .now)) (moveTests m) (ByVoxels (s .args .depth) (s .args .list .now) m (s .args .out .now)) t
       → MoveOf (s .args .depth) (s .args .list .now) (s .args .m) (s .args .out .now) (t .0) (t .1)
-  next t d =
+  next t {m} is d =
       let a = s .args in
-      opening-passes (checks (a .depth) (a .list .now)) (c .before .check .result) (c .before .check .ensures) (keeping (a .out .now)) (moveTests (a .m)) (ByVoxels (a .depth) (a .list .now) (a .m) (a .out .now)) t none d
+      subst (λ (n : Move). MoveOf (a .depth) (a .list .now) n (a .out .now) (t .0) (t .1)) (sym is)
+      (opening-passes (checks (a .depth) (a .list .now)) (c .before .check .result) (c .before .check .ensures) (keeping (a .out .now)) (moveTests m) (ByVoxels (a .depth) (a .list .now) m (a .out .now)) t none d)
 
 -- ---- the needs
 
@@ -46,40 +43,24 @@ returns c =
     let a = t .before .before .before .args in
     opening-refuses (checks (a .depth) (a .list .now)) (t .check .result) (t .check .ensures) (keeping (a .out .now)) (moveTests (a .m)) (ByVoxels (a .depth) (a .list .now) (a .m) (a .out .now)) (c .if1 .taken)
 
-move-whole-requires : tie.Need-move-whole-requires
-move-whole-requires c κs = let k = pass (c .before .before .before .before) in (k .shallow, k .good .ordered)
-
-move-metres-requires : tie.Need-move-metres-requires
-move-metres-requires c κs = let k = pass (c .before .before .before .before) in (k .shallow, k .good .ordered)
-
 -- whole voxels: no test of their own
 returns-2 : tie.Need-returns-2
 returns-2 c =
     let w = c .before .before .move-whole in
     let t = c .before .before .before .before .before in
-    let f = c .before .before .before .before .known-told .given in
-    let e = t .before .before in
-    let a = s e .args in
-    let g = t .m .given .0 in
-    let x : toZ w32 (ofZ w32 (g .0)) ≡ g .0 = toZ-ofZ {w = w32} {z = g .0} (record { sfits = f .0 .1 }) in
-    let y : toZ w32 (ofZ w32 (g .1 .0)) ≡ g .1 .0 = toZ-ofZ {w = w32} {z = g .1 .0} (record { sfits = f .1 .0 .1 }) in
-    let z : toZ w32 (ofZ w32 (g .1 .1 .0)) ≡ g .1 .1 .0 = toZ-ofZ {w = w32} {z = g .1 .1 .0} (record { sfits = f .1 .1 .0 .1 }) in
+    let a = s (t .before .before) .args in
+    let (f, (g, (h, _))) = c .before .before .before .before .known-told .given in
     let left : Answer × List ℕ = (w .result, w .last .1 .1 .1 .1 .1 .0) in
-    let moved : ShiftOf (a .depth) (a .list .now) (axes (g .0) (g .1 .0) (g .1 .1 .0)) (a .out .now) left = rw (x, y, z) at (w .ensures) in
-    next e left
-    (subst (λ (m : Move). Decided (keeping (a .out .now)) (moveTests m) (ByVoxels (a .depth) (a .list .now) m (a .out .now)) left) (sym (t .m .given .1))
-    (g .0, g .1 .0, g .1 .1 .0, each-axis _ refl refl refl, moved))
+    next (t .before .before) left (t .m .given .1)
+    (_, _, _, each-axis _ refl refl refl,
+    signed-axes (λ x. ShiftOf (a .depth) (a .list .now) x (a .out .now) left) _ _ _ (record { sfits = f .1 }) (record { sfits = g .1 }) (record { sfits = h .1 }) (w .ensures))
 
 -- metres: their tests
 returns-3 : tie.Need-returns-3
 returns-3 c =
     let w = c .before .before .move-metres in
     let t = c .before .before .before .before .before in
-    let e = t .before .before in
-    let a = s e .args in
-    let left : Answer × List ℕ = (w .result, w .last .1 .1 .1 .0) in
-    next e left
-    (subst (λ (m : Move). Decided (keeping (a .out .now)) (moveTests m) (ByVoxels (a .depth) (a .list .now) m (a .out .now)) left) (sym (t .m2 .given .1)) (w .ensures))
+    next (t .before .before) (w .result, w .last .1 .1 .1 .0) (t .m2 .given .1) (w .ensures)
 
 pub move-list-spec : {M : Type 1} → statement M
 move-list-spec =
@@ -88,9 +69,9 @@ move-list-spec =
     (λ c κs. search needs)
     returns
     (λ c. search needs)
-    move-whole-requires
+    (λ c κs. let k = pass (c .before .before .before .before) in (k .shallow, k .good .ordered))
     (λ c. search needs)
-    move-metres-requires
+    (λ c κs. let k = pass (c .before .before .before .before) in (k .shallow, k .good .ordered))
     (λ c. search needs)
     returns-2
     (λ c. search needs)

@@ -3,13 +3,9 @@ use mathlib.Core.Path.{sym, subst}
 use mathlib.Core.List.{List}
 use Prim.Native.Nat.{ℕ}
 use borrow.Author.Needs.{needs}
-use lib.IntN.{ℤ}
-use mir.Syntax.{w32}
-use mir.Val.{toZ, ofZ}
-use mir.Facts.{toZ-ofZ}
 use Rattle.cells.specs.Answer.{Decided, keeping}
-use Rattle.cells.specs.Place.{axes}
 use Rattle.cells.specs.declared.Answer.{Answer}
+use Rattle.cells.proofs.Words.{signed-axes}
 use Rattle.metres.specs.Metres.{moveTests}
 use Rattle.metres.specs.Taken.{TakenOf}
 use Rattle.metres.specs.declared.Move.the-variants as the-move
@@ -38,13 +34,12 @@ returns-2 c =
     let v = t .before .before in
     let a = v .before .before .before .args in
     let g = t .taken2 .given .0 in
-    let x : toZ w32 (ofZ w32 (g .0)) ≡ g .0 = toZ-ofZ {w = w32} {z = g .0} (record { sfits = f .0 .1 }) in
-    let y : toZ w32 (ofZ w32 (g .1 .0)) ≡ g .1 .0 = toZ-ofZ {w = w32} {z = g .1 .0} (record { sfits = f .1 .0 .1 }) in
-    let z : toZ w32 (ofZ w32 (g .1 .1 .0)) ≡ g .1 .1 .0 = toZ-ofZ {w = w32} {z = g .1 .1 .0} (record { sfits = f .1 .1 .0 .1 }) in
     let told : TakenOf (a .d) (Voxels (g .0) (g .1 .0) (g .1 .1 .0)) = subst (TakenOf (a .d)) (t .taken2 .given .1) (v .in-voxels .ensures) in
-    let moved : ShiftOf (a .depth) (a .list .now) (axes (g .0) (g .1 .0) (g .1 .1 .0)) (a .out .now) (w .result, w .last .1 .1 .1 .1 .1 .0) = rw (x, y, z) at (w .ensures) in
-    whole-decides (keeping (a .out .now)) (ByVoxels (a .depth) (a .list .now) (the-move.Metres (a .d)) (a .out .now)) (a .d) (g .0) (g .1 .0) (g .1 .1 .0) (w .result, w .last .1 .1 .1 .1 .1 .0) told
-    (λ becomes. (g .0, g .1 .0, g .1 .1 .0, becomes, moved))
+    let left : Answer × List ℕ = (w .result, w .last .1 .1 .1 .1 .1 .0) in
+    let P : Answer × List ℕ → Type 0 = ByVoxels (a .depth) (a .list .now) (the-move.Metres (a .d)) (a .out .now) in
+    whole-decides (keeping (a .out .now)) P (a .d) (g .0) (g .1 .0) (g .1 .1 .0) left told
+    (λ becomes. (_, _, _, becomes,
+    signed-axes (λ x. ShiftOf (a .depth) (a .list .now) x (a .out .now) left) _ _ _ (record { sfits = f .0 .1 }) (record { sfits = f .1 .0 .1 }) (record { sfits = f .1 .1 .0 .1 }) (w .ensures)))
 
 pub move-metres-spec : {M : Type 1} → statement M
 move-metres-spec =
