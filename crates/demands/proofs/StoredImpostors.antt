@@ -7,8 +7,9 @@ use native.Mathlib.Omega.{arith}
 use lib.ListN.{length, getD, drop, replicate, length-replicate, List·getD-append}
 use Rattle.cells.specs.Answer.{answer, given}
 use Rattle.cells.specs.declared.Answer.{Answer}
+use Rattle.cells.proofs.Decisions.{opening-known}
 use Rattle.records.specs.Record.{Good}
-use Rattle.records.proofs.CallLaws.{checked}
+use Rattle.records.proofs.CallLaws.{checks}
 use Rattle.blocks.specs.File.{blocksOf, plain, words, byteOf, fileOf}
 use Rattle.blocks.specs.Calls.{BlockCheckOf, StoredVolumeOf, ReadOf, WriteOf}
 use Rattle.blocks.specs.declared.Reading.{Reading}
@@ -31,7 +32,7 @@ abbrev bytes : List ℕ
 bytes = replicate 513 7
 
 good-none : Good 3 []
-good-none = checked 3 [] (given 0) right-check-none refl .good
+good-none = opening-known (checks 3 []) (given 0) right-check-none refl .good
 
 -- ---- one that rejects everything
 
