@@ -2,9 +2,9 @@
 use mathlib.Core.Path.{refl}
 use mathlib.Core.Logic.{inl, inr}
 use native.Mathlib.Omega.{arith}
-use mir.Syntax.{w32}
-use mir.ValLaws.{toZ-ofZ}
 use borrow.Author.Needs.{needs}
+use Rattle.cells.specs.Neighbour.{NeighbourOf}
+use Rattle.cells.proofs.Words.{signed-axes}
 use Rattle.probe.proofs.on_cells.probe_neighbour.Statement.{statement}
 use Rattle.probe.proofs.on_cells.probe_neighbour.Tie as tie
 
@@ -14,7 +14,7 @@ returns-2 c =
     let n = t .before in
     let s = n .before .before .before .before in
     let a = s .args in
-    inr (omega arith, (n .neighbour .result, rw (toZ-ofZ w32 (a .dx) (s .fits .dx), toZ-ofZ w32 (a .dy) (s .fits .dy), toZ-ofZ w32 (a .dz) (s .fits .dz)) at (n .neighbour .ensures), t .tell .ensures))
+    inr (omega arith, (n .neighbour .result, signed-axes (λ d. NeighbourOf (a .depth) (a .code) d (n .neighbour .result)) _ _ _ (s .fits .dx) (s .fits .dy) (s .fits .dz) (n .neighbour .ensures), t .tell .ensures))
 
 pub probe-neighbour-spec : {M : Type 1} → statement M
 probe-neighbour-spec =

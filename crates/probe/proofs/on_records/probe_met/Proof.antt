@@ -2,10 +2,10 @@
 use mathlib.Core.Path.{refl}
 use mathlib.Core.Logic.{inl, inr}
 use native.Mathlib.Omega.{arith}
-use mir.Syntax.{w32}
-use mir.ValLaws.{toZ-ofZ}
 use denote.Ref.{ptr}
 use borrow.Author.Needs.{needs}
+use Rattle.cells.proofs.Words.{signed-axes}
+use Rattle.records.specs.Met.{MetOf, MetAtOf}
 use Rattle.probe.proofs.on_records.probe_met.Statement.{statement}
 use Rattle.probe.proofs.on_records.probe_met.Tie as tie
 
@@ -16,10 +16,11 @@ returns-2 c =
     let k = a .before .before .before in
     let m = k .before .before in
     let s = m .before .before .before .before .before in
-    let x = toZ-ofZ w32 (s .args .dx) (s .fits .dx) in
-    let y = toZ-ofZ w32 (s .args .dy) (s .fits .dy) in
-    let z = toZ-ofZ w32 (s .args .dz) (s .fits .dz) in
-    inr (omega arith, (a .met-at .result, m .met .result .now, ptr (m .met .result), rw (x, y, z) at (a .met-at .ensures), rw (x, y, z) at (m .met .ensures), t .tell .ensures, k .copy .ensures))
+    let g = s .args in
+    let f = s .fits in
+    let at = signed-axes (λ d. MetAtOf (g .depth) (g .list .now) (g .code) d (a .met-at .result)) _ _ _ (f .dx) (f .dy) (f .dz) (a .met-at .ensures) in
+    let found = signed-axes (λ d. MetOf (g .depth) (g .list .now) (ptr (g .list)) (g .code) d (m .met .result .now) (ptr (m .met .result))) _ _ _ (f .dx) (f .dy) (f .dz) (m .met .ensures) in
+    inr (omega arith, (_, _, _, at, found, t .tell .ensures, k .copy .ensures))
 
 pub probe-met-spec : {M : Type 1} → statement M
 probe-met-spec =
