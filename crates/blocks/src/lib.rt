@@ -1,14 +1,15 @@
 // Stored blocks: document 01, "Stored blocks". A file is blocks of 512 bytes, each of 128 little-endian words: 0 the block's index, 1 the number of blocks,
 // 2 the depth, 3 how many codes the block holds, 4 to 125 the codes, 126 and 127 the check.
 // A host calls `check_blocks`, `stored_volume`, `read` and `write`.
+mod checker;
 mod inner;
-mod inspect;
+mod measurer;
 mod reader;
 mod writer;
 
 use cells::Answer;
-pub use inspect::check_blocks;
-pub use inspect::stored_volume;
+pub use checker::check_blocks;
+pub use measurer::stored_volume;
 pub use reader::read;
 pub use writer::write;
 

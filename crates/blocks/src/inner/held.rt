@@ -1,5 +1,5 @@
 // INNER: the list that a file holds, judged where it stands among the bytes, and what is told of it.
-use crate::check_blocks;
+use crate::checker::check_blocks;
 use crate::inner::words::code_at;
 use crate::inner::words::word_at;
 use cells::Answer;
@@ -34,6 +34,7 @@ pub struct Holding {
     pub voxels: u32,
 }
 
+// A refusal.
 fn nothing_held(answer: Answer) -> Holding
     ensures { λ r. ⌜ r .answer ≡ answer ⌝ }
 {

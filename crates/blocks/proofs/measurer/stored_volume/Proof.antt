@@ -1,4 +1,4 @@
--- `blocks::inspect::stored_volume` meets its contract: the voxels of the leaves are the black ones. Assumes nothing.
+-- `blocks::measurer::stored_volume` meets its contract: the voxels of the leaves are the black ones. Assumes nothing.
 use mathlib.Core.Path.{_≡_, sym, ap, _∙_}
 use mathlib.Core.List.{List, []}
 use Prim.Native.Nat.{ℕ}
@@ -9,8 +9,8 @@ use Rattle.cells.proofs.Decisions.{opening-refuses, opening-passes, opening-kno
 use Rattle.records.proofs.Volumes.{blacks, list-volume}
 use Rattle.blocks.specs.Block.{depthOf, codes}
 use Rattle.blocks.proofs.CallLaws.{judges-file}
-use Rattle.blocks.proofs.inspect.stored_volume.Statement.{statement}
-use Rattle.blocks.proofs.inspect.stored_volume.Tie as tie
+use Rattle.blocks.proofs.measurer.stored_volume.Statement.{statement}
+use Rattle.blocks.proofs.measurer.stored_volume.Tie as tie
 
 module _ (c : tie.After-answer) where
   abbrev b : List ℕ

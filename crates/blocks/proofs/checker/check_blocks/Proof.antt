@@ -1,4 +1,4 @@
--- `blocks::inspect::check_blocks` meets its contract. Assumes nothing.
+-- `blocks::checker::check_blocks` meets its contract. Assumes nothing.
 use mathlib.Core.Path.{_≡_, refl, sym, ap, _∙_}
 use mathlib.Core.Bool.{true, false}
 use mathlib.Core.List.{List}
@@ -14,8 +14,8 @@ use Rattle.blocks.specs.Block.{blockBytes, blocks, whole}
 use Rattle.blocks.specs.Calls.{BlockCheckOf}
 use Rattle.blocks.specs.Inner.{Sound}
 use Rattle.blocks.proofs.Sound.{no-block, a-rest, is-whole, sound-passes}
-use Rattle.blocks.proofs.inspect.check_blocks.Statement.{statement}
-use Rattle.blocks.proofs.inspect.check_blocks.Tie as tie
+use Rattle.blocks.proofs.checker.check_blocks.Statement.{statement}
+use Rattle.blocks.proofs.checker.check_blocks.Tie as tie
 
 -- the length is wrong: 9 with the count of whole blocks
 bad-length : (b : List ℕ) (r : Answer) → whole b ≡ false → r ≡ answer 9 (length b / blockBytes) 0 → BlockCheckOf b r
