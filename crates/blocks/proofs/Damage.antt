@@ -55,15 +55,15 @@ module _ (b b' : List ℕ) (i w : ℕ) (c : Changed b b' i w) where
   -- the other words
   other : (j v : ℕ) → v < 128 → (128 * j + v ≡ 128 * i + w → ⊥) → word b' j v ≡ word b j v
   unfolding word
-  other j v h ne = ⊎-elim (λ (l : 128 * j + v ≤ 128 * i + w). low (omega (arith, ne))) (λ (l : 128 * i + w < 128 * j + v). high l) (le-or-lt (128 * j + v) (128 * i + w))
+  other j v h ne = rw (
+    at 0 (512 * j + 4 * v) (omega arith) (omega arith),
+    at 1 (512 * j + 4 * v + 1) (omega arith) refl,
+    at 2 (512 * j + 4 * v + 2) (omega arith) refl,
+    at 3 (512 * j + 4 * v + 3) (omega arith) refl,
+  )
     where
-      low : 128 * j + v < 128 * i + w → word b' j v ≡ word b j v
-      low l =
-          rw (c .before (512 * j + 4 * v) (omega arith), c .before (512 * j + 4 * v + 1) (omega arith), c .before (512 * j + 4 * v + 2) (omega arith), c .before (512 * j + 4 * v + 3) (omega arith))
-
-      high : 128 * i + w < 128 * j + v → word b' j v ≡ word b j v
-      high l =
-          rw (c .after (512 * j + 4 * v) (omega arith), c .after (512 * j + 4 * v + 1) (omega arith), c .after (512 * j + 4 * v + 2) (omega arith), c .after (512 * j + 4 * v + 3) (omega arith))
+      at : (k n : ℕ) → k < 4 → n ≡ 512 * j + 4 * v + k → getD b' n 0 ≡ getD b n 0
+      at k n l e = ⊎-elim (λ (x : 512 * i + 4 * w + 4 ≤ n). c .after n x) (λ (x : n < 512 * i + 4 * w + 4). c .before n (omega (arith, ne))) (le-or-lt (512 * i + 4 * w + 4) n)
 
   -- the word itself
   new : word b' i w ≡ word b i w → ⊥

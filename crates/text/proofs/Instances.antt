@@ -1,46 +1,39 @@
 -- For each public call of this crate an answer that fits its definition at a named input, and one that does not. Assumes nothing.
-use mathlib.Core.Path.{_≡_, refl, ap}
+use mathlib.Core.Path.{_≡_, refl, sym, ap}
 use mathlib.Core.Logic.{inr}
 use mathlib.Core.List.{List, [], _∷_, _++_}
-use Prim.Native.Nat.{ℕ, _^_}
+use Prim.Native.Nat.{ℕ}
 use native.Mathlib.Omega.{arith}
 use lib.ListN.{getD, replicate}
 use Rattle.cells.specs.Answer.{given}
-use Rattle.cells.specs.Cell.{level, index, span, start, holds}
+use Rattle.cells.specs.Cell.{level, index}
 use Rattle.cells.specs.declared.Answer.{Answer}
 use Rattle.cells.proofs.Decisions.{passes, opening-known}
-use Rattle.records.specs.Record.{black, Good}
-use Rattle.records.specs.Count.{count}
 use Rattle.records.proofs.First.{good-passes}
-use Rattle.records.proofs.CallLaws.{checks}
-use Rattle.records.proofs.Instances.{check-holds}
+use Rattle.records.proofs.Instances.{volume-holds}
 use Rattle.text.specs.Text.{digits, labels, pathLines, listing, textOf, TextOf, refusedText, RefusedOf}
-use Rattle.text.proofs.CallLaws.{one-text, one-refused}
+use Rattle.text.proofs.CallLaws.{GoodVolume, measures, one-text, one-refused}
 
 -- ---- document 01's listing: depth 3, [r057]
 
 abbrev one : List ℕ
 one = 559 ∷ []
 
-good : Good 3 one
-good = opening-known (checks 3 one) (given 1) check-holds refl .good
+-- it is good, and has one voxel
+known : GoodVolume 3 one 1
+known = opening-known (measures 3 one) (given 1) volume-holds refl
 
 -- "depth 3 leaves 1 volume 1", "r057"
 abbrev pub printed : List ℕ
 printed = 100 ∷ 101 ∷ 112 ∷ 116 ∷ 104 ∷ 32 ∷ 51 ∷ 32 ∷ 108 ∷ 101 ∷ 97 ∷ 118 ∷ 101 ∷ 115 ∷ 32 ∷ 49 ∷ 32 ∷ 118 ∷ 111 ∷ 108 ∷ 117 ∷ 109 ∷ 101 ∷ 32 ∷ 49 ∷ 10 ∷ 114 ∷ 48 ∷ 53 ∷ 55 ∷ 10 ∷ []
 
--- its one leaf is one voxel
-one-voxel : count (black 3 one) (8 ^ 3) ≡ 1
-unfolding level index span start holds black count
-one-voxel = refl
-
 pub text-is : textOf 3 one ≡ printed
 unfolding digits labels level index pathLines listing
-text-is = ap (listing 3 one) one-voxel
+text-is = ap (listing 3 one) (sym (known .is-volume))
 
 -- 31 bytes, and one more, which stays
 pub text-holds : TextOf 3 one (replicate 32 7) (given 31) (printed ++ (7 ∷ []))
-text-holds = rw text-is (inr (passes (λ h. omega arith), inr (good-passes 3 one 1 good, inr (passes (λ h. omega arith), refl))))
+text-holds = rw text-is (inr (passes (λ h. omega arith), inr (good-passes 3 one 1 (known .good), inr (passes (λ h. omega arith), refl))))
 
 pub text-fails : TextOf 3 one (replicate 32 7) (given 30) (printed ++ (7 ∷ [])) → ⊥
 text-fails h =
