@@ -4,7 +4,7 @@ use mathlib.Core.List.{List, [], _∷_, _++_}
 use Prim.Native.Nat.{ℕ, _+_, _^_, _<_}
 use lib.ListN.{length}
 use lib.Seq.{sets}
-use Rattle.text.specs.Text.{decimal, depthWord, leavesWord, volumeWord}
+use Rattle.text.specs.Text.{field, depthWord, leavesWord, volumeWord}
 
 -- the text l is put over the bytes o from place `at` on, which leaves `after`: a byte past their end changes nothing; r is the place after it
 pub record Put (o : List ℕ) (at : ℕ) (l after : List ℕ) (r : ℕ) : Type 0 where
@@ -15,10 +15,6 @@ pub record Put (o : List ℕ) (at : ℕ) (l after : List ℕ) (r : ℕ) : Type 0
 abbrev pub Labelled : ℕ → ℕ → ℕ → Type 0
 Labelled c k i = (c ≡ 8 ^ k + i) × (i < 8 ^ k)
 
--- a word and a number
-abbrev pub field : List ℕ → ℕ → List ℕ
-field w n = w ++ decimal n
-
 -- the first line: depth D, n leaves, v black voxels
 abbrev pub headLine : ℕ → ℕ → ℕ → List ℕ
-headLine D n v = ((field depthWord D ++ field leavesWord n) ++ field volumeWord v) ++ (10 ∷ [])
+headLine D n v = field depthWord D ++ field leavesWord n ++ field volumeWord v ++ (10 ∷ [])

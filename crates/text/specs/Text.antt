@@ -43,9 +43,13 @@ leavesWord = 32 ∷ 108 ∷ 101 ∷ 97 ∷ 118 ∷ 101 ∷ 115 ∷ 32 ∷ []
 abbrev pub volumeWord : List ℕ
 volumeWord = 32 ∷ 118 ∷ 111 ∷ 108 ∷ 117 ∷ 109 ∷ 101 ∷ 32 ∷ []
 
+-- a word and a number
+abbrev pub field : List ℕ → ℕ → List ℕ
+field w n = w ++ decimal n
+
 -- depth, leaf count and black voxels on the first line, then the paths
 unfoldable pub listing : ℕ → List ℕ → ℕ → List ℕ
-listing D l v = depthWord ++ (decimal D ++ (leavesWord ++ (decimal (length l) ++ (volumeWord ++ (decimal v ++ (10 ∷ pathLines D l))))))
+listing D l v = field depthWord D ++ field leavesWord (length l) ++ field volumeWord v ++ (10 ∷ []) ++ pathLines D l
 
 -- the listing of a good list
 abbrev pub textOf : ℕ → List ℕ → List ℕ
@@ -61,7 +65,7 @@ refusedWord = 114 ∷ 101 ∷ 102 ∷ 117 ∷ 115 ∷ 101 ∷ 100 ∷ 32 ∷ []
 
 -- what is told of a file that is refused: number n and place p
 unfoldable pub refusedText : ℕ → ℕ → List ℕ
-refusedText n p = refusedWord ++ (decimal n ++ (32 ∷ (decimal p ++ (10 ∷ []))))
+refusedText n p = field refusedWord n ++ field (32 ∷ []) p ++ (10 ∷ [])
 
 -- THE CALL refused_text, of number n and place p to the bytes o: the answer r and the bytes o' afterwards
 abbrev pub RefusedOf : ℕ → ℕ → List ℕ → Answer → List ℕ → Type 0

@@ -1,10 +1,9 @@
 -- `text::inner::lines::put_listing` meets its contract. Assumes nothing.
-use mathlib.Core.Path.{sym}
 use native.Mathlib.Omega.{arith}
 use borrow.Author.Needs.{needs}
 use Rattle.cells.proofs.Words.{pow8-small}
-use Rattle.text.proofs.Puts.{put-append, put-as}
-use Rattle.text.proofs.Digits.{listing-lines}
+use Rattle.text.proofs.Puts.{put-append}
+use Rattle.text.specs.Text.{listing}
 use Rattle.text.proofs.inner.lines.put_listing.Statement.{statement}
 use Rattle.text.proofs.inner.lines.put_listing.Tie as tie
 
@@ -16,12 +15,12 @@ put-paths-requires c κs =
     (s .args .depth, shallow, ordered, omega (arith, head .put-head .ensures .1, few, pow8-small (s .args .depth) shallow))
 
 returns : tie.Need-returns
+unfolding listing
 returns c =
     let paths = c .before .before in
     let head = paths .before .before .before .before in
     let s = head .before .before .before .before in
-    let a = s .args in
-    put-as (sym (listing-lines (a .depth) (a .list .now) (a .voxels))) (put-append (head .put-head .ensures .0) (paths .put-paths .ensures (a .depth) (s .pre .0) (s .pre .1)))
+    put-append (head .put-head .ensures .0) (paths .put-paths .ensures (s .args .depth) (s .pre .0) (s .pre .1))
 
 pub put-listing-spec : {M : Type 1} → statement M
 put-listing-spec = tie.close (tie.spec (λ c κs. search needs) put-paths-requires (λ c. search needs) returns)

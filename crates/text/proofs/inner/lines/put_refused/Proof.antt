@@ -1,18 +1,17 @@
 -- `text::inner::lines::put_refused` meets its contract. Assumes nothing.
-use mathlib.Core.Path.{sym}
 use borrow.Author.Needs.{needs}
-use Rattle.text.proofs.Puts.{put-append, put-as}
-use Rattle.text.proofs.Digits.{refused-fields}
+use Rattle.text.proofs.Puts.{put-append}
+use Rattle.text.specs.Text.{refusedText}
 use Rattle.text.proofs.inner.lines.put_refused.Statement.{statement}
 use Rattle.text.proofs.inner.lines.put_refused.Tie as tie
 
 returns : tie.Need-returns
+unfolding refusedText
 returns c =
     let end = c .before .before in
     let place = end .before .before .before .before in
     let number = place .before .before .before .before .before in
-    let a = number .before .before .before .before .args in
-    put-as (sym (refused-fields (a .number) (a .place))) (put-append (put-append (number .put-field .ensures .0) (place .put-field2 .ensures .0)) (end .put .ensures))
+    put-append (put-append (number .put-field .ensures .0) (place .put-field2 .ensures .0)) (end .put .ensures)
 
 pub put-refused-spec : {M : Type 1} → statement M
 put-refused-spec =
