@@ -13,7 +13,7 @@ use Rattle.cells.specs.Answer.{deepest}
 use Rattle.cells.specs.Cell.{level, proper, index}
 use Rattle.cells.proofs.Power.{pow8-pos, pow8-suc}
 use Rattle.cells.proofs.Cells.{level-le, proper-bounds}
-use Rattle.text.specs.Text.{digits, decimal, labels, pathLine, pathLines, depthWord, leavesWord, volumeWord, listing, refusedWord, refusedText}
+use Rattle.text.specs.Text.{digits, labels, pathLine, pathLines, refusedText}
 use Rattle.text.specs.Inner.{Put, Labelled, headLine}
 use Rattle.text.proofs.Puts.{put-append, put-as}
 
@@ -100,18 +100,6 @@ paths-more D l i h =
     nothing (a ∷ x) = ap (λ (y : List ℕ). a ∷ y) (nothing x)
 
 -- ---- whole texts
-
--- the former forms
-former-listing : (D : ℕ) (l : List ℕ) (v : ℕ) → depthWord ++ (decimal D ++ (leavesWord ++ (decimal (length l) ++ (volumeWord ++ (decimal v ++ (10 ∷ pathLines D l)))))) ≡ listing D l v
-unfolding listing
-former-listing D l v = go depthWord (decimal D) leavesWord (decimal (length l)) volumeWord (decimal v) (10 ∷ []) (pathLines D l)
-  where
-    go : (a b c d e f g h : List ℕ) → a ++ (b ++ (c ++ (d ++ (e ++ (f ++ (g ++ h)))))) ≡ ((((a ++ b) ++ (c ++ d)) ++ (e ++ f)) ++ g) ++ h
-    go a b c d e f g h = simp append-assoc
-
-former-refused : (n p : ℕ) → refusedWord ++ (decimal n ++ (32 ∷ (decimal p ++ (10 ∷ [])))) ≡ refusedText n p
-unfolding refusedText
-former-refused n p = simp append-assoc
 
 pub head-length : (D n v : ℕ) → length (headLine D n v) ≤ 83
 head-length D n v = simp length-append (omega (arith, digits-length 10 19 D, digits-length 10 19 n, digits-length 10 19 v))
