@@ -16,10 +16,13 @@ blockBytes = 512
 abbrev pub blockCodes : ℕ
 blockCodes = 122
 
--- word w of block i of the bytes b: four bytes, the lowest first
+-- the number that four bytes from place p on make, the lowest first
+abbrev pub fourBytes : List ℕ → ℕ → ℕ
+fourBytes b p = getD b p 0 + 256 * (getD b (p + 1) 0 + 256 * (getD b (p + 2) 0 + 256 * getD b (p + 3) 0))
+
+-- word w of block i
 unfoldable pub word : List ℕ → ℕ → ℕ → ℕ
-word b i w =
-    getD b (blockBytes * i + 4 * w) 0 + 256 * (getD b (blockBytes * i + 4 * w + 1) 0 + 256 * (getD b (blockBytes * i + 4 * w + 2) 0 + 256 * getD b (blockBytes * i + 4 * w + 3) 0))
+word b i w = fourBytes b (blockBytes * i + 4 * w)
 
 -- A takes the word and then B takes A, both sums wrapping at 32 bits
 abbrev pub taking : Sums → ℕ → Sums

@@ -5,7 +5,7 @@ use crate::FIRST_CODE;
 ghost use mathlib.Core.Path.{_≡_};
 ghost use Prim.Native.Nat.{_+_, _*_, _/_, _%_, _≤_, _<_};
 ghost use lib.ListN.{length};
-ghost use Rattle.blocks.specs.Block.{blockBytes, blockCodes, word};
+ghost use Rattle.blocks.specs.Block.{blockBytes, blockCodes, fourBytes, word};
 ghost use Rattle.blocks.specs.Inner.{stored};
 
 // A byte as a number.
@@ -15,17 +15,24 @@ fn wide(x: u8) -> u32
     x as u32
 }
 
-// Word w of block i.
-pub fn word_at(bytes: &[u8], i: usize, w: usize) -> u32
-    requires { ⌜ (blockBytes * i + blockBytes ≤ length (now bytes)) × (w < 128) ⌝ }
-    ensures { λ r. ⌜ r ≡ word (now (bytes .entry)) i w ⌝ }
+// The four bytes from place p on, the lowest first.
+fn four_bytes(bytes: &[u8], p: usize) -> u32
+    requires { ⌜ p + 4 ≤ length (now bytes) ⌝ }
+    ensures { λ r. ⌜ r ≡ fourBytes (now (bytes .entry)) p ⌝ }
 {
-    let p = BLOCK_BYTES * i + 4 * w;
     let b0 = wide(bytes[p]);
     let b1 = wide(bytes[p + 1]);
     let b2 = wide(bytes[p + 2]);
     let b3 = wide(bytes[p + 3]);
     b0 + 256 * (b1 + 256 * (b2 + 256 * b3))
+}
+
+// Word w of block i.
+pub fn word_at(bytes: &[u8], i: usize, w: usize) -> u32
+    requires { ⌜ (blockBytes * i + blockBytes ≤ length (now bytes)) × (w < 128) ⌝ }
+    ensures { λ r. ⌜ r ≡ word (now (bytes .entry)) i w ⌝ }
+{
+    four_bytes(bytes, BLOCK_BYTES * i + 4 * w)
 }
 
 // Code j of a file.
