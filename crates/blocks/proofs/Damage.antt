@@ -82,7 +82,6 @@ module _ (b b' : List ℕ) (i w : ℕ) (c : Changed b b' i w) where
 
   module _ (s : Sound b) where
     same-blocks : blocks b' ≡ blocks b
-    unfolding blocks
     same-blocks = ap (λ (n : ℕ). n / 512) (c .same-length)
 
     same-whole : whole b' ≡ true

@@ -59,7 +59,7 @@ block-check-holds = inr (sound-passes (fileOf 3 one) one-sound, ap (λ (l : List
 
 -- no byte at all: 9, with no whole block
 pub block-check-refuses : BlockCheckOf [] (answer 9 0 0)
-unfolding blocks whole
+unfolding whole
 block-check-refuses = inl (_, inl (refl, refl), refl)
 
 pub block-check-fails : BlockCheckOf [] (given 0) → ⊥

@@ -82,7 +82,6 @@ module _ (D : ℕ) (l : List ℕ) (shallow : D ≤ deepest) (g : Good D l) where
       ∙ rw (eq-eqb (words D l i 126) (check (words D l i) 126 .a) (words-a D l i ∙ ap (λ (x : Sums). x .a) (sym sums)), eq-eqb (words D l i 127) (check (words D l i) 126 .b) (words-b D l i ∙ ap (λ (x : Sums). x .b) (sym sums)))
 
   file-blocks : blocks (fileOf D l) ≡ blocksOf (length l)
-  unfolding blocks
   file-blocks = omega (arith, file-length D l)
 
   pub file-depth : depthOf (fileOf D l) ≡ D

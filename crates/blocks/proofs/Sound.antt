@@ -87,20 +87,20 @@ wrong v i n D h = sym (refuted (soundBlock v i n D) (λ t. h (sound-words v i n 
 -- ---- whether the file is whole, and sound
 
 pub no-block : (b : List ℕ) → length b / blockBytes ≡ 0 → whole b ≡ false
-unfolding whole blocks
+unfolding whole
 no-block b e = rw (lt-leb 1 (length b / blockBytes) (omega arith))
 
 pub a-rest : (b : List ℕ) → (length b / blockBytes ≡ 0 → ⊥) → (length b % blockBytes ≡ 0 → ⊥) → whole b ≡ false
-unfolding whole blocks
+unfolding whole
 a-rest b h e = rw (le-leb 1 (length b / blockBytes) (omega arith), ne-eqb (length b % blockBytes) 0 e)
 
 pub is-whole : (b : List ℕ) → (length b / blockBytes ≡ 0 → ⊥) → length b % blockBytes ≡ 0 → whole b ≡ true
-unfolding whole blocks
+unfolding whole
 is-whole b h e = rw (le-leb 1 (length b / blockBytes) (omega arith), eq-eqb (length b % blockBytes) 0 e)
 
 -- a whole file and its blocks
 pub whole-blocks : (b : List ℕ) → whole b ≡ true → (1 ≤ blocks b) × (blockBytes * blocks b ≡ length b)
-unfolding whole blocks
+unfolding whole
 whole-blocks b w =
     let (some, rest) = both-true (leb 1 (length b / blockBytes)) (eqb (length b % blockBytes) 0) w in
     (leb-true 1 (length b / blockBytes) some, omega (arith, eqb-true (length b % blockBytes) 0 rest))

@@ -66,7 +66,7 @@ soundBlock v i n D = rightIndex v i && (rightBlocks v n && (rightDepth v D && (r
 -- ---- the file
 
 -- how many whole blocks; whether there is a block and nothing beside whole blocks; block 0's depth
-unfoldable pub blocks : List ℕ → ℕ
+abbrev pub blocks : List ℕ → ℕ
 blocks b = length b / blockBytes
 
 unfoldable pub whole : List ℕ → Bool

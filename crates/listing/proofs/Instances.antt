@@ -24,7 +24,7 @@ listing-holds = inr (sound-passes (fileOf 3 one) one-sound, rw (one-depth, one-c
 
 -- no byte at all: "refused 9 0"
 pub listing-refuses : Printed [] (refusedText 9 0)
-unfolding blocks whole
+unfolding whole
 listing-refuses = inl (_, inl (refl, refl), refl)
 
 pub listing-fails : Printed [] [] → ⊥

@@ -19,7 +19,6 @@ use Rattle.blocks.proofs.checker.check_blocks.Tie as tie
 
 -- the length is wrong: 9 with the count of whole blocks
 bad-length : (b : List ℕ) (r : Answer) → whole b ≡ false → r ≡ answer 9 (length b / blockBytes) 0 → BlockCheckOf b r
-unfolding blocks
 bad-length b r w e = inl (_, inl (w, refl), e)
 
 returns : tie.Need-returns
@@ -43,11 +42,9 @@ module _ (c : tie.Else2) where
   whole-file = let z : length b % 512 ≡ 0 = search needs in is-whole b (c .before .if1 .left) z
 
 first-unsound-requires : tie.Need-first-unsound-requires
-unfolding blocks
 first-unsound-requires c κs = (whole-file c, refl)
 
 returns-3 : tie.Need-returns-3
-unfolding blocks
 returns-3 c =
     let f = c .before .before in
     let stops = f .first-unsound .ensures in
@@ -56,14 +53,12 @@ returns-3 c =
 
 module _ (c : tie.Else3) where
   is-sound : Sound (b (c .before .before))
-  unfolding blocks
   is-sound =
       let f = c .before in
       let all : f .first-unsound .result ≡ length (b (f .before)) / 512 = search needs in
       record { is-whole = whole-file (f .before); each = stops-never (f .first-unsound .ensures) (omega arith) }
 
 leaves-of-requires : tie.Need-leaves-of-requires
-unfolding blocks
 leaves-of-requires c κs = (is-sound c, refl)
 
 pub check-blocks-spec : {M : Type 1} → statement M
