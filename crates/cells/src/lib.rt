@@ -1,8 +1,8 @@
 // Cells of a root cube by their codes: document 01, "Cells and codes" and "Neighbours".
 // A host calls `place`, `code` and `neighbour`; `inner` is for the crates above.
-pub mod corners;
+mod corners;
 pub mod inner;
-pub mod neighbours;
+mod neighbours;
 
 pub use corners::Corner;
 pub use corners::code;

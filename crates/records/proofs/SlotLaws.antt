@@ -20,8 +20,8 @@ use Rattle.records.proofs.Fault.{member-at, index-of, in-order}
 use Rattle.records.proofs.Search.{proper-at}
 use Rattle.records.proofs.Edges.{small-before, small-after, big-from, big-to, smaller, edge, inside, edge-next}
 use Rattle.records.specs.Slot.{Source, Of, OfCell, SlotTint, tintOf, slotAt}
-use Rattle.records.specs.declared.slots.Tint.the-variants.{Black, Mixed}
-use Rattle.records.specs.declared.slots.Slot.{Slot}
+use Rattle.records.specs.declared.inner.slots.Tint.the-variants.{Black, Mixed}
+use Rattle.records.specs.declared.inner.slots.Slot.{Slot}
 
 -- ---- lists
 

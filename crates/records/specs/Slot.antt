@@ -6,9 +6,9 @@ use lib.ListN.{length, getD}
 use Rattle.cells.specs.Answer.{deepest}
 use Rattle.cells.specs.Cell.{start, span}
 use Rattle.records.specs.Record.{Ordered}
-use Rattle.records.specs.declared.slots.Slot.{Slot}
-use Rattle.records.specs.declared.slots.Tint.{Tint}
-use Rattle.records.specs.declared.slots.Tint.the-variants.{White, Black, Mixed}
+use Rattle.records.specs.declared.inner.slots.Slot.{Slot}
+use Rattle.records.specs.declared.inner.slots.Tint.{Tint}
+use Rattle.records.specs.declared.inner.slots.Tint.the-variants.{White, Black, Mixed}
 
 -- a list that can be searched
 pub record Source (D : ℕ) (l : List ℕ) : Type 0 where

@@ -1,4 +1,6 @@
 // INNER: the walk that judges a list, and the search in a good one, for the crates above. A host must not call these.
+pub mod slots;
+
 use cells::Answer;
 use cells::inner::first;
 use cells::inner::is_proper;

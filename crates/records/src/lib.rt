@@ -1,9 +1,8 @@
 // Lists of leaves: document 01, "Lists" and "Neighbours".
-// A host calls `check`, `lookup`, `volume`, `met` and `met_at`; `inner` and `slots` are for the crates above.
-pub mod checks;
+// A host calls `check`, `lookup`, `volume`, `met` and `met_at`; `inner` is for the crates above.
+mod checks;
 pub mod inner;
-pub mod meetings;
-pub mod slots;
+mod meetings;
 
 pub use checks::check;
 pub use checks::lookup;

@@ -16,8 +16,8 @@ use Rattle.emit.specs.declared.inner.Runs.{Runs}
 use Rattle.emit.specs.Inner.{Ready, Next, Fed}
 use Rattle.emit.proofs.Runs.{fed-none, fed-white, fed-then}
 use Rattle.records.specs.Slot.{OfCell, SlotTint}
-use Rattle.records.specs.declared.slots.Slot.{Slot}
-use Rattle.records.specs.declared.slots.Tint.the-variants.{Mixed}
+use Rattle.records.specs.declared.inner.slots.Slot.{Slot}
+use Rattle.records.specs.declared.inner.slots.Tint.the-variants.{Mixed}
 use Rattle.records.proofs.SlotLaws.{slot-proper, slot-low, slot-high, slot-off, black-at}
 
 -- on the w voxels from `from` on P is what l has from `base` on

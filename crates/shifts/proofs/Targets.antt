@@ -18,8 +18,8 @@ use Rattle.shifts.specs.Shift.{shift, carry, cellOf, need, shifted}
 use Rattle.records.specs.Slot.{Source, Of, tintOf, slotAt}
 use Rattle.shifts.specs.Descent.{Slots, OfCells, Divided, SlotsTint, Copying, Copies, Aimed, Divides, partAt}
 use Rattle.shifts.specs.declared.inner.descent.Target.{Target}
-use Rattle.records.specs.declared.slots.Slot.{Slot}
-use Rattle.records.specs.declared.slots.Tint.{Tint}
+use Rattle.records.specs.declared.inner.slots.Slot.{Slot}
+use Rattle.records.specs.declared.inner.slots.Tint.{Tint}
 use Rattle.shifts.proofs.Bits.{sum-lt, carry-lt, uses-none, uses-carry}
 use Rattle.shifts.proofs.Adder.{shifted-in, source-cell, need-carries, needs-level, carries-lt, carry-none, child-cell, root-cell, low-labels, need-none}
 use Rattle.records.proofs.Edges.{child-within, edge}

@@ -11,8 +11,8 @@ use Rattle.shifts.specs.LabelSums.{Uses}
 use Rattle.shifts.specs.Shift.{need, cellOf}
 use Rattle.records.specs.Slot.{Source, Of, OfCell, SlotTint, tintOf, slotAt}
 use Rattle.shifts.specs.declared.inner.descent.Target.{Target}
-use Rattle.records.specs.declared.slots.Slot.{Slot}
-use Rattle.records.specs.declared.slots.Tint.{Tint}
+use Rattle.records.specs.declared.inner.slots.Slot.{Slot}
+use Rattle.records.specs.declared.inner.slots.Tint.{Tint}
 
 -- ---- the eight slots of a target cell
 

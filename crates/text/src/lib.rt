@@ -7,7 +7,7 @@ use crate::inner::lines::put_refused;
 use cells::Answer;
 use cells::inner::refusal;
 use cells::inner::success;
-use records::checks::volume;
+use records::volume;
 ghost use Rattle.text.specs.Text.{TextOf, RefusedOf};
 
 // The listing of a good list at the front of `bytes`: 1 for the depth, 2 to 4 for the list, 8 where `bytes` is too short.

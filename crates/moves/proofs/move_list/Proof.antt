@@ -51,9 +51,13 @@ returns-2 c =
     let a = s (t .before .before) .args in
     let (f, (g, (h, _))) = c .before .before .before .before .known-told .given in
     let left : Answer × List ℕ = (w .result, w .last .1 .1 .1 .1 .1 .0) in
-    next (t .before .before) left (t .m .given .1)
-    (_, _, _, each-axis _ refl refl refl,
-    signed-axes (λ x. ShiftOf (a .depth) (a .list .now) x (a .out .now) left) _ _ _ (record { sfits = f .1 }) (record { sfits = g .1 }) (record { sfits = h .1 }) (w .ensures))
+    next (t .before .before) left (t .m .given .1) (
+      _,
+      _,
+      _,
+      each-axis _ refl refl refl,
+      signed-axes (λ x. ShiftOf (a .depth) (a .list .now) x (a .out .now) left) _ _ _ (record { sfits = f .1 }) (record { sfits = g .1 }) (record { sfits = h .1 }) (w .ensures),
+    )
 
 -- metres: their tests
 returns-3 : tie.Need-returns-3

@@ -38,8 +38,13 @@ returns-2 c =
     let left : Answer × List ℕ = (w .result, w .last .1 .1 .1 .1 .1 .0) in
     let P : Answer × List ℕ → Type 0 = ByVoxels (a .depth) (a .list .now) (the-move.Metres (a .d)) (a .out .now) in
     whole-decides (keeping (a .out .now)) P (a .d) (g .0) (g .1 .0) (g .1 .1 .0) left told
-    (λ becomes. (_, _, _, becomes,
-    signed-axes (λ x. ShiftOf (a .depth) (a .list .now) x (a .out .now) left) _ _ _ (record { sfits = f .0 .1 }) (record { sfits = f .1 .0 .1 }) (record { sfits = f .1 .1 .0 .1 }) (w .ensures)))
+    (λ becomes. (
+      _,
+      _,
+      _,
+      becomes,
+      signed-axes (λ x. ShiftOf (a .depth) (a .list .now) x (a .out .now) left) _ _ _ (record { sfits = f .0 .1 }) (record { sfits = f .1 .0 .1 }) (record { sfits = f .1 .1 .0 .1 }) (w .ensures),
+    ))
 
 pub move-metres-spec : {M : Type 1} → statement M
 move-metres-spec =

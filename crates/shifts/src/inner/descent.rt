@@ -9,17 +9,17 @@ use cells::inner::width;
 use emit::inner::Runs;
 use emit::inner::finish;
 use emit::inner::push;
-use records::slots::Slot;
-use records::slots::Tint;
-use records::slots::cell_from;
-use records::slots::tint_slot;
+use records::inner::slots::Slot;
+use records::inner::slots::Tint;
+use records::inner::slots::cell_from;
+use records::inner::slots::tint_slot;
 ghost use mathlib.Core.Bool.{Bool};
 ghost use Prim.Native.Nat.{ℕ, suc, _+_, _*_, _<_, _^_};
 ghost use Rattle.emit.specs.Inner.{Fed, Result};
 ghost use Rattle.shifts.specs.Shift.{shifted};
 ghost use Rattle.records.specs.Slot.{Source, Of, SlotTint};
 ghost use Rattle.shifts.specs.Descent.{Copying, Copies, Aimed, Divides};
-ghost use Rattle.records.specs.declared.slots.Tint.the-variants.{Mixed};
+ghost use Rattle.records.specs.declared.inner.slots.Tint.the-variants.{Mixed};
 
 // A target cell: its least voxel, the levels below it, and the axes on which the shift's labels of these levels are not all 0.
 pub struct Target {

@@ -2,10 +2,10 @@
 use crate::inner::labels::carry_label;
 use crate::inner::labels::sum_label;
 use crate::inner::labels::within;
-use records::slots::Slot;
-use records::slots::Tint;
-use records::slots::split_slot;
-use records::slots::tint_slot;
+use records::inner::slots::Slot;
+use records::inner::slots::Tint;
+use records::inner::slots::split_slot;
+use records::inner::slots::tint_slot;
 ghost use mathlib.Core.Path.{_≡_};
 ghost use mathlib.Core.Bool.{true};
 ghost use Prim.Native.Nat.{ℕ, suc, _+_, _*_, _<_};

@@ -10,7 +10,7 @@ use Rattle.emit.specs.Inner.{Next}
 use Rattle.emit.proofs.Runs.{fed-white, fed-to}
 use Rattle.records.specs.Slot.{Of, SlotTint, tintOf}
 use Rattle.shifts.specs.Descent.{Copies}
-use Rattle.records.specs.declared.slots.Tint.{Tint}
+use Rattle.records.specs.declared.inner.slots.Tint.{Tint}
 use Rattle.records.proofs.SlotLaws.{slot-colour}
 use Rattle.shifts.proofs.inner.descent.copy_slot.Statement.{statement}
 use Rattle.shifts.proofs.inner.descent.copy_slot.Tie as tie

@@ -9,7 +9,7 @@ use borrow.Author.Tests.{not-false}
 use Rattle.cells.proofs.Power.{le-or-lt}
 use Rattle.shifts.specs.LabelSums.{Uses}
 use Rattle.records.specs.Slot.{SlotTint, slotAt, tintOf}
-use Rattle.records.specs.declared.slots.Tint.the-variants.{Mixed}
+use Rattle.records.specs.declared.inner.slots.Tint.the-variants.{Mixed}
 use Rattle.shifts.proofs.Bits.{uses-none}
 use Rattle.shifts.proofs.inner.sources.colour.Statement.{statement}
 use Rattle.shifts.proofs.inner.sources.colour.Tie as tie

@@ -6,7 +6,7 @@ use native.Mathlib.Omega.{arith}
 use borrow.Author.Needs.{needs}
 use Rattle.shifts.specs.LabelSums.{sumLabel, carryLabel}
 use Rattle.shifts.specs.Descent.{partAt}
-use Rattle.records.specs.declared.slots.Slot.{Slot}
+use Rattle.records.specs.declared.inner.slots.Slot.{Slot}
 use Rattle.records.proofs.Arrays.{Prefix, prefix-none, prefix-more}
 use Rattle.shifts.proofs.inner.sources.pick.Statement.{statement}
 use Rattle.shifts.proofs.inner.sources.pick.Tie as tie

@@ -1,4 +1,4 @@
--- `records::slots::cut_slot` meets its contract. The loop's invariant: the parts before child m are cut, and i is the cut before it. Assumes nothing.
+-- `records::inner::slots::cut_slot` meets its contract. The loop's invariant: the parts before child m are cut, and i is the cut before it. Assumes nothing.
 use mathlib.Core.Path.{_≡_, refl, ap, _∙_}
 use mathlib.Core.List.{List}
 use Prim.Native.Nat.{ℕ, suc, _+_, _-_, _*_, _^_}
@@ -11,12 +11,12 @@ use Rattle.cells.proofs.Cells.{within}
 use Rattle.cells.proofs.Words.{pow8-small}
 use Rattle.records.specs.Inner.{Starts}
 use Rattle.records.specs.Slot.{Of}
-use Rattle.records.specs.declared.slots.Slot.{Slot}
+use Rattle.records.specs.declared.inner.slots.Slot.{Slot}
 use Rattle.records.proofs.Arrays.{Prefix, prefix-none, prefix-more}
 use Rattle.records.proofs.Edges.{edge, edge-next, inside}
 use Rattle.records.proofs.SlotLaws.{Cut, cut-none, cut-next, cut-part, at-cell, slot-proper, slot-low}
-use Rattle.records.proofs.slots.cut_slot.Statement.{statement}
-use Rattle.records.proofs.slots.cut_slot.Tie as tie
+use Rattle.records.proofs.inner.slots.cut_slot.Statement.{statement}
+use Rattle.records.proofs.inner.slots.cut_slot.Tie as tie
 
 record Cutting (D : ℕ) (l : List ℕ) (k b : ℕ) (s : Slot) (v i : ℕ) (r : List Slot) (m : ℕ) : Type 0 where
   place : v ≡ (8 * b + m) * 8 ^ k

@@ -1,4 +1,4 @@
--- `records::slots::cell_from` meets its contract: the slot's first leaf lies in the cell. Assumes nothing.
+-- `records::inner::slots::cell_from` meets its contract: the slot's first leaf lies in the cell. Assumes nothing.
 use native.Mathlib.Nat.{div-add-mod'}
 use native.Mathlib.Omega.{arith}
 use borrow.Author.Needs.{needs}
@@ -6,8 +6,8 @@ use lib.ListN.{getD}
 use Rattle.cells.proofs.Cells.{within}
 use Rattle.cells.proofs.Words.{pow8-small}
 use Rattle.records.proofs.SlotLaws.{at-cell, slot-proper, slot-cell}
-use Rattle.records.proofs.slots.cell_from.Statement.{statement}
-use Rattle.records.proofs.slots.cell_from.Tie as tie
+use Rattle.records.proofs.inner.slots.cell_from.Statement.{statement}
+use Rattle.records.proofs.inner.slots.cell_from.Tie as tie
 
 first-requires : tie.Need-first-requires
 first-requires c κs = let p = c .before .before .before .pre in (p .0 .source .deep, slot-proper (p .0) (p .1) _ (p .1 .0))

@@ -1,9 +1,9 @@
--- `records::slots::tint_slot` meets its contract. Assumes nothing.
+-- `records::inner::slots::tint_slot` meets its contract. Assumes nothing.
 use native.Mathlib.Omega.{arith}
 use borrow.Author.Needs.{needs}
 use Rattle.records.proofs.Search.{proper-at}
-use Rattle.records.proofs.slots.tint_slot.Statement.{statement}
-use Rattle.records.proofs.slots.tint_slot.Tie as tie
+use Rattle.records.proofs.inner.slots.tint_slot.Statement.{statement}
+use Rattle.records.proofs.inner.slots.tint_slot.Tie as tie
 
 width-requires : tie.Need-width-requires
 width-requires c κs =

@@ -8,7 +8,7 @@ ghost use mathlib.Core.Path.{_≡_};
 ghost use Prim.Native.Nat.{ℕ, suc, _+_, _*_, _≤_, _<_, _^_};
 ghost use lib.ListN.{length};
 ghost use Rattle.records.specs.Slot.{Source, Of, OfCell, SlotTint, slotAt};
-ghost use Rattle.records.specs.declared.slots.Tint.the-variants.{Mixed};
+ghost use Rattle.records.specs.declared.inner.slots.Tint.the-variants.{Mixed};
 
 // The leaves from place lo up to place hi.
 pub struct Slot {

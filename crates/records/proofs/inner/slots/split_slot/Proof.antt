@@ -1,14 +1,14 @@
--- `records::slots::split_slot` meets its contract: an empty slot, a leaf that has all of the cell, leaves that are smaller. Assumes nothing.
+-- `records::inner::slots::split_slot` meets its contract: an empty slot, a leaf that has all of the cell, leaves that are smaller. Assumes nothing.
 use mathlib.Core.Path.{_≡_, sym, ap, _∙_, subst, subst₂}
 use mathlib.Core.Bool.{Bool, true, false}
 use Prim.Native.Nat.{ℕ, suc, _+_, _*_, _^_, _<_}
 use native.Mathlib.Numerals.{add-one}
 use borrow.Author.Needs.{needs}
 use Rattle.records.specs.Slot.{Of, SlotTint, tintOf, slotAt}
-use Rattle.records.specs.declared.slots.Tint.{Tint}
+use Rattle.records.specs.declared.inner.slots.Tint.{Tint}
 use Rattle.records.proofs.SlotLaws.{slot-whole, eightOf, each-of-eight}
-use Rattle.records.proofs.slots.split_slot.Statement.{statement}
-use Rattle.records.proofs.slots.split_slot.Tie as tie
+use Rattle.records.proofs.inner.slots.split_slot.Statement.{statement}
+use Rattle.records.proofs.inner.slots.split_slot.Tie as tie
 
 module _ (q : tie.After-tint-slot) where
   abbrev s : tie.Start
