@@ -106,6 +106,10 @@ pub record Opening (Fs : List Test) (P K : Answer → Type 0) : Type 0 where
   pub succeeds : (r : Answer) → P r → r .number ≡ 0
   pub known : (r : Answer) → Passed Fs → P r → K r
 
+-- a call whose success tells the number n
+pub opening-given : {Fs : List Test} {K : Answer → Type 0} {n : ℕ} → Numbered Fs → (Passed Fs → K (given n)) → Opening Fs (λ r. r ≡ given n) K
+opening-given {Fs} {K} numbered known = record { numbered = numbered; succeeds = λ r e. ap (λ (x : Answer). x .number) e; known = λ r passed e. subst⁻¹ K e (known passed) }
+
 module _ {Fs : List Test} {P K : Answer → Type 0} (o : Opening Fs P K) (r : Answer) (d : Decided alone Fs P r) where
   -- a refusal is passed on
   pub opening-refuses : {S : Type 0} (refuse : Answer → S) (Gs : List Test) (Q : S → Type 0) → (r .number ≡ 0 → ⊥) → Decided refuse (Fs ++ Gs) Q (refuse r)

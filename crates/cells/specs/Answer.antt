@@ -18,10 +18,10 @@ abbrev pub Test : Type 1
 Test = Answer → Type 0
 
 -- The tests run in order, and the first that fails decides: the call leaves `refuse a`, the test's answer with every lent byte as it was.
--- Where all tests pass, P holds of what the call leaves. So `check` of a list l, whose row is TooDeep, Faulty:
---   the depth is above the greatest: the answer is (1, 0, 0), whatever the list holds
---   it is not, and the list has a fault, its first at index i: the answer is (2, 3 or 4, i, 1)
---   neither test refuses: the answer is given (length l), the number of leaves
+-- Where all tests pass, P holds of what the call leaves. So the row of `check`, TooDeep and then Faulty, reads:
+--   the depth is above the greatest: `answer 1 0 0`, whatever the list l holds
+--   it is not, and the first fault of l stands at index i: `answer 2 i 1`, or 3 or 4 in place of 2
+--   both tests pass: `given (length l)`, the number of leaves
 abbrev pub Decided : {R : Type 0} → (Answer → R) → List Test → (R → Type 0) → R → Type 0
 Decided refuse [] P r = P r
 Decided refuse (F ∷ Fs) P r = ((a : Answer) × F a × (r ≡ refuse a)) ⊎ (((a : Answer) → F a → ⊥) × Decided refuse Fs P r)

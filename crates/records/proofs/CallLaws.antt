@@ -1,6 +1,6 @@
 -- The laws of the calls `check`, `lookup` and `volume`: what a call that opens with `check`, or with a list judged alone, takes from it, and no second answer
 -- fits. Assumes nothing.
-use mathlib.Core.Path.{_≡_, refl, ap}
+use mathlib.Core.Path.{_≡_, refl}
 use mathlib.Core.List.{List, [], _∷_}
 use Prim.Native.Nat.{ℕ, _^_, _≤_, _<_}
 use native.Mathlib.Omega.{arith}
@@ -8,7 +8,7 @@ use lib.ListN.{length}
 use Rattle.cells.specs.Answer.{given, alone, deepest, TooDeep}
 use Rattle.cells.specs.Place.{axes}
 use Rattle.cells.specs.declared.Answer.{Answer}
-use Rattle.cells.proofs.Decisions.{One, one-equal, one-refuses, one-refuses-first, one-decided, refuses-numbered, Opening}
+use Rattle.cells.proofs.Decisions.{One, one-equal, one-refuses, one-refuses-first, one-decided, refuses-numbered, Opening, opening-given}
 use Rattle.records.specs.Record.{Good}
 use Rattle.records.specs.Fault.{Faulty}
 use Rattle.records.specs.Calls.{NoVoxel, CheckOf, LookupOf, VolumeOf}
@@ -24,27 +24,18 @@ pub record Checked (D : ℕ) (l : List ℕ) (n : ℕ) : Type 0 where
   pub is-length : n ≡ length l
   pub few : length l ≤ 8 ^ D
 
-abbrev number : Answer → ℕ
-number a = a .number
-
-abbrev place : Answer → ℕ
-place a = a .place
-
 module _ (D : ℕ) (l : List ℕ) where
+  checked : (k : ℕ) → D ≤ deepest → ((a : Answer) → Faulty D l k a → ⊥) → Checked D l (length l)
+  checked k h clean = let g = not-faulty D l k clean in record { shallow = h; good = g; is-length = refl; few = few-leaves D l g }
+
   -- a list judged alone, as the call's list k, at a depth that is taken
   pub judges : (k : ℕ) → D ≤ deepest → Opening (Faulty D l k ∷ []) (λ r. r ≡ given (length l)) (λ r. Checked D l (r .place))
-  judges k h = record {
-    numbered = (faulty-numbered D l k, tt);
-    succeeds = λ r e. ap number e;
-    known = λ r (clean, _) e. let g = not-faulty D l k clean in record { shallow = h; good = g; is-length = ap place e; few = few-leaves D l g };
-  }
+  judges k h = opening-given (faulty-numbered D l k, tt) (λ (clean, _). checked k h clean)
 
   pub checks : Opening (TooDeep deepest D ∷ Faulty D l 1 ∷ []) (λ r. r ≡ given (length l)) (λ r. Checked D l (r .place))
-  checks = record {
-    numbered = (refuses-numbered (λ z. omega arith), (faulty-numbered D l 1, tt));
-    succeeds = λ r e. ap number e;
-    known = λ r (deep, clean) e. let shallow : deepest < D → ⊥ = λ h. deep _ (h, refl) in judges 1 (omega arith) .known r clean e;
-  }
+  checks =
+      opening-given (refuses-numbered (λ z. omega arith), (faulty-numbered D l 1, tt))
+      (λ (deep, (clean, _)). let shallow : deepest < D → ⊥ = λ h. deep _ (h, refl) in checked 1 (omega arith) clean)
 
 -- ---- no second answer
 

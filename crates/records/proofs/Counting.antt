@@ -1,12 +1,12 @@
 -- The laws of `count`: tests that agree, tests that add up, an interval, and a count bounded by an injection. Assumes nothing.
 use mathlib.Core.Path.{_≡_, refl, sym, ap, ap₂, _∙_}
-use mathlib.Core.Bool.{Bool, true, false, not, _&&_, _||_, and-false}
-use mathlib.Core.Logic.{_⊎_, inl, inr}
+use mathlib.Core.Bool.{Bool, true, false, not, _&&_, _||_, and-true}
+use mathlib.Core.Logic.{_⊎_, inl, inr, ⊎-elim}
 use Prim.Native.Nat.{ℕ, zero, suc, _+_, _-_, _≤_, _<_, min, zero-le}
-use native.Mathlib.Nat.{le-refl, le-antisymm}
+use native.Mathlib.Nat.{le-refl, le-antisymm, le-of-suc-le-suc, eq-or-lt-of-le}
 use native.Mathlib.Omega.{arith}
 use lib.Dec.{leb, ltb, eqb}
-use borrow.Author.Tests.{le-leb, lt-ltb, lt-leb, le-ltb, eqb-true, eq-eqb, ne-eqb}
+use borrow.Author.Tests.{le-leb, lt-ltb, lt-leb, le-ltb, eq-eqb, ne-eqb}
 use Rattle.records.specs.Count.{bit, count}
 use Rattle.cells.proofs.Power.{le-or-lt}
 
@@ -64,15 +64,6 @@ count-interval a b (suc n) = go (count-interval a b n) (le-or-lt a n) (le-or-lt 
     go ih (inl h) (inr k) = rw (le-leb a n h, lt-ltb n b k) (omega arith)
     go ih (inr h) k = rw (lt-leb a n h) (omega arith)
 
--- one number
-pub count-one : (y n : ℕ) → y < n → count (λ v. eqb v y) n ≡ 1
-count-one y n h = count-same (λ v. eqb v y) (λ v. leb y v && ltb v (suc y)) n (λ v l. same v (le-or-lt y v) (le-or-lt (suc y) v)) ∙ count-interval y (suc y) n ∙ omega arith
-  where
-    same : (v : ℕ) → (y ≤ v) ⊎ (v < y) → (suc y ≤ v) ⊎ (v < suc y) → eqb v y ≡ (leb y v && ltb v (suc y))
-    same v (inl h) (inl k) = ne-eqb v y (λ e. omega arith) ∙ sym (rw (le-leb y v h, le-ltb v (suc y) k))
-    same v (inl h) (inr k) = eq-eqb v y (omega arith) ∙ sym (rw (le-leb y v h, lt-ltb v (suc y) k))
-    same v (inr h) k = ne-eqb v y (λ e. omega arith) ∙ sym (rw (lt-leb y v h))
-
 -- ---- a count bounded by an injection
 
 -- a test without the number y
@@ -84,13 +75,15 @@ unfolding without
 still Q y v q e = rw (q, e)
 
 count-without : (Q : ℕ → Bool) (y n : ℕ) → y < n → Q y ≡ true → count Q n ≡ suc (count (without Q y) n)
-unfolding without
-count-without Q y n h q =
-    omega (arith, count-less Q (λ v. eqb v y) n, count-same (λ v. Q v && eqb v y) (λ v. eqb v y) n (λ v l. only v (eqb v y) refl), count-one y n h)
-  where
-    only : (v : ℕ) (t : Bool) → eqb v y ≡ t → (Q v && t) ≡ t
-    only v true e = rw (eqb-true v y e, q)
-    only v false e = and-false (Q v)
+unfolding count without
+count-without Q y zero h q = absurd (omega arith)
+count-without Q y (suc n) h q =
+    ⊎-elim
+    (λ (e : y ≡ n).
+    let rest = count-same (without Q y) Q y (λ v l. rw (ne-eqb v y (λ z. omega arith)) (and-true (Q v))) in
+    rw (← e, q, eq-eqb y y refl) (omega (arith, rest)))
+    (λ (l : y < n). rw (ne-eqb n y (λ z. omega arith), and-true (Q n)) (omega (arith, count-without Q y n l q)))
+    (eq-or-lt-of-le (le-of-suc-le-suc h))
 
 -- Where f takes each number below n that passes P to one below m that passes Q, no two to the same, P passes at most as often below n as Q below m.
 pub count-injection : (P Q : ℕ → Bool) (n m : ℕ) (f : ℕ → ℕ)
