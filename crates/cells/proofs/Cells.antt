@@ -178,9 +178,9 @@ pub child-inside : (D c d j : ℕ) → Child D c d j → j < 8 → Inside D d c
 child-inside D c d j x h = omega (arith, x .is-start, x .is-span, mul-le-mul-right (span D d) h)
 
 -- a cell of 8 ^ (n + 1) voxels has children
-pub above : (D c n : ℕ) → span D c ≡ 8 ^ suc n → level D c < D
+pub has-children : (D c n : ℕ) → span D c ≡ 8 ^ suc n → level D c < D
 unfolding span
-above D c n e = omega (arith, pow8-inj (D - level D c) (suc n) e)
+has-children D c n e = omega (arith, pow8-inj (D - level D c) (suc n) e)
 
 -- the other way: a proper code of the form 8 * p + j is a child, unless p is 0
 pub parent : (D p j : ℕ) → j < 8 → 0 < p → proper D (8 * p + j) ≡ true → (proper D p ≡ true) × (level D p < D)

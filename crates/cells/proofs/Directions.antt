@@ -11,7 +11,7 @@ use Rattle.cells.specs.Inner.{digitOf, Direction}
 use Rattle.cells.specs.Place.{EachAxis, allAxes}
 use Rattle.cells.proofs.Bools.{both-true, refuted, clash}
 use Rattle.cells.proofs.Integers.{above, below}
-use Rattle.cells.proofs.Places.{each-axis, each-true, all-true}
+use Rattle.cells.proofs.Places.{each-axis, each-true, all-pass}
 use Rattle.cells.proofs.Rules.{forth}
 
 -- ---- a step and its digit
@@ -61,7 +61,7 @@ module _ (d : ℕ → ℤ) where
   pub numbered : EachAxis (λ a. digitOf (d a) ≤ 2) → Direction d numberOf
   unfolding isDirection
   numbered h = record {
-    bad = λ e. rw (steps, all-true (λ a. isNone (d a)) (each-axis _ (none 0 (omega arith)) (none 1 (omega arith)) (none 2 (omega arith))));
+    bad = λ e. rw (steps, all-pass (λ a. isNone (d a)) (each-axis _ (none 0 (omega arith)) (none 1 (omega arith)) (none 2 (omega arith))));
     good = λ n. steps-and-not (allAxes (λ a. isNone (d a))) refl n;
     small = omega (arith, x, y, z);
     digits = λ _. each-axis _ (omega (arith, x)) (omega (arith, x, y)) (omega (arith, x, y, z));
@@ -83,7 +83,7 @@ module _ (d : ℕ → ℤ) where
       some a e = eqb-true _ 0 (sym (none-digit (d a)) ∙ e)
 
       steps : allAxes (λ a. isStep (d a)) ≡ true
-      steps = all-true (λ a. isStep (d a)) (λ a l. step-digit (d a) ∙ le-leb _ 2 (h a l))
+      steps = all-pass (λ a. isStep (d a)) (λ a l. step-digit (d a) ∙ le-leb _ 2 (h a l))
 
       steps-and-not : (t : Bool) → allAxes (λ a. isNone (d a)) ≡ t → (numberOf ≡ 0 → ⊥) → (allAxes (λ a. isStep (d a)) && not t) ≡ true
       steps-and-not false e n = rw steps

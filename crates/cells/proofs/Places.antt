@@ -23,8 +23,8 @@ each-true P e =
     let u = both-true (P 1) (P 2) (t .1) in
     each-axis _ (t .0) (u .0) (u .1)
 
-pub all-true : (P : ℕ → Bool) → EachAxis (λ a. P a ≡ true) → allAxes P ≡ true
-all-true P h = rw (h 0 (omega arith), h 1 (omega arith), h 2 (omega arith))
+pub all-pass : (P : ℕ → Bool) → EachAxis (λ a. P a ≡ true) → allAxes P ≡ true
+all-pass P h = rw (h 0 (omega arith), h 1 (omega arith), h 2 (omega arith))
 
 pub some-false : (P : ℕ → Bool) → allAxes P ≡ false → (a : ℕ) × (a < 3) × (P a ≡ false)
 some-false P e = go (P 0) refl (P 1) refl e

@@ -20,7 +20,7 @@ use Rattle.cells.proofs.Bools.{both-true}
 use Rattle.cells.proofs.CornerLaws.{side-pos, corner-lt}
 use Rattle.cells.proofs.Integers.{above, below}
 use Rattle.cells.proofs.Displacements.{displaced→, displaced-back}
-use Rattle.cells.proofs.Places.{all-true}
+use Rattle.cells.proofs.Places.{all-pass}
 
 -- ---- the corner of a cell is a proper corner, and gives the cell's code
 
@@ -73,5 +73,5 @@ none-still (negsuc n) e = absurd (omega arith)
 pub root-alone : (D m : ℕ) (d : ℕ → ℤ) → isDirection d ≡ true → Neighbour D 1 d m → ⊥
 unfolding isDirection
 root-alone D m d h n =
-    let none : allAxes (λ a. isNone (d a)) ≡ true = all-true (λ a. isNone (d a)) (λ a l. none-still (d a) (root-still (2 ^ a) D m (d a) (n .same-level) (n .each a l))) in
+    let none : allAxes (λ a. isNone (d a)) ≡ true = all-pass (λ a. isNone (d a)) (λ a l. none-still (d a) (root-still (2 ^ a) D m (d a) (n .same-level) (n .each a l))) in
     false≢true (rw none at (both-true (allAxes (λ a. isStep (d a))) _ h .1))

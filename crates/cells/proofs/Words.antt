@@ -24,18 +24,18 @@ pow8-small n h = pow-le-pow-right {n = 8} (omega arith) h
 
 -- ---- what fits a word
 
-abbrev pub bits : ℕ
-bits = 32
+abbrev pub wordBits : ℕ
+wordBits = 32
 
 -- the codes of a root cube are below 2 * 8 ^ D
-pub codes-fit : (D : ℕ) → D ≤ deepest → 2 * 8 ^ D < 2 ^ bits
+pub codes-fit : (D : ℕ) → D ≤ deepest → 2 * 8 ^ D < 2 ^ wordBits
 codes-fit D h = omega (arith, pow8-small D h)
 
 module _ (D c : ℕ) (h : D ≤ deepest) (p : proper D c ≡ true) where
-  pub code-fits : c < 2 ^ bits
+  pub code-fits : c < 2 ^ wordBits
   code-fits = omega (arith, proper-bounds D c p, codes-fit (level D c) (omega (arith, level-le D c)))
 
-  pub end-fits : end D c < 2 ^ bits
+  pub end-fits : end D c < 2 ^ wordBits
   end-fits = omega (arith, within D c p, codes-fit D h)
 
 -- a callee reads signed arguments back from their bits: they are the arguments

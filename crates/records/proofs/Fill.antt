@@ -13,7 +13,7 @@ use Rattle.records.specs.Fault.{allFrom}
 use Rattle.records.specs.Inner.{White}
 use Rattle.cells.proofs.Power.{le-or-lt, pow8-suc}
 use Rattle.cells.proofs.Bools.{both-true, refuted}
-use Rattle.cells.proofs.Cells.{cell-of, child, above}
+use Rattle.cells.proofs.Cells.{cell-of, child, has-children}
 use Rattle.records.proofs.Lists.{holds-true, held, black-held, black-before}
 use Rattle.records.proofs.Leaves.{leaf-of, black-append, ordered-append}
 use Rattle.records.proofs.Parents.{capped-condensed}
@@ -41,7 +41,7 @@ pub record At (D c n s : ℕ) : Type 0 where
 
 pub at-child : (D c n s j : ℕ) → At D c (suc n) s → j < 8 → At D (8 * c + j) n (s + j * 8 ^ n)
 at-child D c n s j t h =
-    let x = child D c j (t .is-proper) (above D c n (t .is-span)) h in
+    let x = child D c j (t .is-proper) (has-children D c n (t .is-span)) h in
     let w : span D (8 * c + j) ≡ 8 ^ n = omega (arith, x .is-span, t .is-span, pow8-suc n) in
     record { is-proper = x .is-proper; is-start = x .is-start ∙ rw (w, t .is-start); is-span = w }
 

@@ -10,7 +10,7 @@ use native.Mathlib.Omega.{arith}
 use Rattle.cells.specs.Cell.{level, proper, start, span, end, holds}
 use Rattle.records.specs.Record.{black, Ordered, Condensed, Good}
 use Rattle.cells.proofs.Power.{le-or-lt, pow8-suc, pow8-lt-inv, pow8-le-inv}
-use Rattle.cells.proofs.Cells.{cell, same-cell, span-pos, child, Inside, child-inside, above, Apart, nested}
+use Rattle.cells.proofs.Cells.{cell, same-cell, span-pos, child, Inside, child-inside, has-children, Apart, nested}
 use Rattle.records.proofs.Lists.{AllBlack, holds-true, held, black-beyond}
 use Rattle.records.proofs.Leaves.{member, member-black, leaf-of, one-leaf}
 
@@ -77,9 +77,9 @@ module _ (D from : ℕ) (l : List ℕ) (o : Ordered D from l) (con : Condensed l
       ⊎-elim (λ h. h) (λ (all : (j : ℕ) → j < 8 → List·Memᴰ (8 * d + j) l). absurd (con d all))
       (one-or-all (InLeaf d) (λ j. List·Memᴰ (8 * d + j) l) 8
       (λ j h.
-      let x = child D d j p (above D d n u) h in
+      let x = child D d j p (has-children D d n u) h in
       let (lo, hi) = child-inside D d (8 * d + j) j x h in
-      child-leaf d j p (above D d n u) h (in-leaf n (8 * d + j) (x .is-proper) (omega (arith, x .is-span, u, pow8-suc n)) (λ v a e. b v (omega arith) (omega arith)))))
+      child-leaf d j p (has-children D d n u) h (in-leaf n (8 * d + j) (x .is-proper) (omega (arith, x .is-span, u, pow8-suc n)) (λ v a e. b v (omega arith) (omega arith)))))
 
   pub inside-leaf : (d : ℕ) → proper D d ≡ true → AllBlack D l (start D d) (end D d) → InLeaf d
   inside-leaf d p b = in-leaf (cell D d p .n) d p (cell D d p .span≡) b

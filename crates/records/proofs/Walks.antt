@@ -17,7 +17,7 @@ use Rattle.cells.specs.Cell.{proper, start, span, end}
 use Rattle.records.specs.Record.{Good}
 use Rattle.records.specs.Fault.{early, numbered, fault, Faulty}
 use Rattle.records.specs.Inner.{volume}
-use Rattle.records.specs.Walk.{lastOf, pastOf, voxels, nextRun, runOf, Kept, Walked}
+use Rattle.records.specs.Walk.{lastOf, pastOf, voxels, nextRun, runOf, Faultless, Walked}
 use Rattle.records.specs.declared.inner.Walk.{Walk}
 use Rattle.cells.proofs.Cells.{within, span-pos}
 use Rattle.records.proofs.Fault.{not-early, faultless-good}
@@ -62,7 +62,7 @@ stays k some = record { stopped = λ n. rw add-one (first-more (k .stopped n)); 
 lt-split : (j i : ℕ) → j < suc i → (j ≡ i) ⊎ (j < i)
 lt-split j i h = eq-or-lt-of-le (le-of-suc-le-suc h)
 
-module _ {D : ℕ} {l : List ℕ} {i : ℕ} {w : Walk} {c : ℕ} (k : Kept D l i w) (e : getD l i 0 ≡ c) where
+module _ {D : ℕ} {l : List ℕ} {i : ℕ} {w : Walk} {c : ℕ} (k : Faultless D l i w) (e : getD l i 0 ≡ c) where
   next-is : runOf l (suc i) ≡ nextRun (w .last) (w .run) c
   unfolding runOf
   next-is = rw (k .is-last, k .is-run, e)

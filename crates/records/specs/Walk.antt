@@ -35,7 +35,7 @@ runOf l zero = 0
 runOf l (suc i) = nextRun (lastOf l i) (runOf l i) (getD l i 0)
 
 -- w is what is kept of the first i leaves of l, which have no fault
-pub record Kept (D : ℕ) (l : List ℕ) (i : ℕ) (w : Walk) : Type 0 where
+pub record Faultless (D : ℕ) (l : List ℕ) (i : ℕ) (w : Walk) : Type 0 where
   pub faultless : (j : ℕ) → j < i → fault D l j ≡ 0
   pub is-passed : w .passed ≡ i
   pub is-last : w .last ≡ lastOf l i
@@ -50,7 +50,7 @@ pub record Kept (D : ℕ) (l : List ℕ) (i : ℕ) (w : Walk) : Type 0 where
 pub record Walked (D : ℕ) (l : List ℕ) (i : ℕ) (w : Walk) : Type 0 where
   pub stopped : (w .number ≡ 0 → ⊥) → First i (λ j. fault D l j ≡ 0 → ⊥) (w .passed)
   pub is-number : (w .number ≡ 0 → ⊥) → w .number ≡ fault D l (w .passed)
-  pub kept : w .number ≡ 0 → Kept D l i w
+  pub kept : w .number ≡ 0 → Faultless D l i w
 
 -- what is told of the call's list k alone: its first fault, or its length
 abbrev pub JudgedOf : ℕ → List ℕ → ℕ → Answer → Type 0

@@ -5,24 +5,24 @@ use native.Mathlib.Omega.{arith}
 use Rattle.cells.specs.Cell.{proper}
 use Rattle.cells.proofs.Levels.{leading-proper, leading-test}
 use Rattle.cells.proofs.Bools.{refuted}
-use Rattle.cells.proofs.Words.{bits}
+use Rattle.cells.proofs.Words.{wordBits}
 use Rattle.cells.proofs.inner.is_proper.Statement.{statement}
 use Rattle.cells.proofs.inner.is_proper.Tie as tie
 
 returns : tie.Need-returns
 returns c =
     let s = c .before in
-    sym (refuted (proper (s .args .depth) (s .args .code)) (λ p. omega (arith, leading-proper bits (s .args .depth) (s .args .code) (omega (arith, s .pre)) p)))
+    sym (refuted (proper (s .args .depth) (s .args .code)) (λ p. omega (arith, leading-proper wordBits (s .args .depth) (s .args .code) (omega (arith, s .pre)) p)))
 
 returns-2 : tie.Need-returns-2
 returns-2 c =
     let s = c .before .before in
-    sym (refuted (proper (s .args .depth) (s .args .code)) (λ p. c .if2 .taken (omega (arith, leading-proper bits (s .args .depth) (s .args .code) (omega (arith, s .pre)) p))))
+    sym (refuted (proper (s .args .depth) (s .args .code)) (λ p. c .if2 .taken (omega (arith, leading-proper wordBits (s .args .depth) (s .args .code) (omega (arith, s .pre)) p))))
 
 returns-3 : tie.Need-returns-3
 returns-3 c =
     let s = c .before .before in
-    leading-test bits (s .args .depth) (s .args .code) (omega (arith, s .pre)) (s .fits .code .fits) (omega arith) (c .if2 .left)
+    leading-test wordBits (s .args .depth) (s .args .code) (omega (arith, s .pre)) (s .fits .code .fits) (omega arith) (c .if2 .left)
 
 pub is-proper-spec : {M : Type 1} → statement M
 is-proper-spec = tie.close (tie.spec returns returns-2 returns-3)

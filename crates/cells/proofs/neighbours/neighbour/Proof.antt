@@ -21,7 +21,7 @@ use Rattle.cells.proofs.Cells.{level-le}
 use Rattle.cells.proofs.CornerLaws.{code-is, index-lt}
 use Rattle.cells.proofs.Bools.{clash}
 use Rattle.cells.proofs.Decisions.{passes, deep-enough}
-use Rattle.cells.proofs.Words.{bits, codes-fit, signed-axes}
+use Rattle.cells.proofs.Words.{wordBits, codes-fit, signed-axes}
 use Rattle.cells.proofs.Carries.{Progress, begins, ended, turned, room, finished}
 use Rattle.cells.proofs.Steps.{stepped-lt}
 use Rattle.cells.proofs.NeighbourLaws.{found, missing}
@@ -68,7 +68,7 @@ module _ (c : tie.After-direction Inv-loop μ-loop) where
   directed = signed-axes (λ x. Direction x d) _ _ _ (s .fits .dx) (s .fits .dy) (s .fits .dz) (c .direction .ensures)
 
   -- the codes of the level fit
-  small : 2 * 8 ^ k < 2 ^ bits
+  small : 2 * 8 ^ k < 2 ^ wordBits
   small = codes-fit k (omega (arith, level-le D code, deep))
 
   -- the depth and the code pass their tests
@@ -96,7 +96,7 @@ module _ (l : tie.At-loop Inv-loop μ-loop) where
   worked : l .loop .carry ≤ 0 → (carried (k q) (i q) (d q) ≡ 0) × (l .loop .rest * l .loop .weight + l .loop .done ≡ 8 ^ k q + stepped (k q) (i q) (d q))
   worked h = finished (l .loop .inv) (omega arith)
 
-  fits : l .loop .carry ≤ 0 → l .loop .rest * l .loop .weight + l .loop .done < 2 ^ bits
+  fits : l .loop .carry ≤ 0 → l .loop .rest * l .loop .weight + l .loop .done < 2 ^ wordBits
   fits h = omega (arith, worked h, small q, stepped-lt (k q) (i q) (d q))
 
 loop-holds : tie.Need-loop-holds Inv-loop μ-loop
@@ -117,7 +117,7 @@ returns-4 c =
 
 -- a label more fits the word
 next-fits : (c : tie.After-rule Inv-loop μ-loop)
-    → (c .before .before .before .loop .done + c .rule .result % 8 * c .before .before .before .loop .weight < 2 ^ bits) × (c .before .before .before .loop .weight * 8 < 2 ^ bits)
+    → (c .before .before .before .loop .done + c .rule .result % 8 * c .before .before .before .loop .weight < 2 ^ wordBits) × (c .before .before .before .loop .weight * 8 < 2 ^ wordBits)
 next-fits c =
     let l = c .before .before .before in
     let r = room (l .loop .inv) (c .before .if4 .left) in

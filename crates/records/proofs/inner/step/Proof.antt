@@ -6,8 +6,8 @@ use native.Mathlib.Omega.{arith}
 use borrow.Author.Needs.{needs}
 use borrow.Author.Tests.{not-true, not-false}
 use Rattle.cells.specs.Cell.{proper, start, end}
-use Rattle.cells.proofs.Words.{bits, codes-fit, end-fits}
-use Rattle.records.specs.Walk.{Kept}
+use Rattle.cells.proofs.Words.{wordBits, codes-fit, end-fits}
+use Rattle.records.specs.Walk.{Faultless}
 use Rattle.records.proofs.Walks.{stays, improper, too-early, eighth, stops, goes}
 use Rattle.records.proofs.inner.step.Statement.{statement}
 use Rattle.records.proofs.inner.step.Tie as tie
@@ -27,7 +27,7 @@ module _ (c : tie.Else1) where
   going : s .args .walk .number ≡ 0
   going = search needs
 
-  kept : Kept D (s .pre .1 .0) (s .pre .1 .1) (s .args .walk)
+  kept : Faultless D (s .pre .1 .0) (s .pre .1 .1) (s .args .walk)
   kept = s .pre .1 .2 .kept going
 
 module _ (c : tie.Else2) where
@@ -38,7 +38,7 @@ module _ (c : tie.Else2) where
   is = sym (c .before .is-proper .ensures) ∙ not-false _ (c .if2 .left)
 
   -- its leaf's end fits
-  small : end (D u) (code u) < 2 ^ bits
+  small : end (D u) (code u) < 2 ^ wordBits
   small = end-fits (D u) (code u) (s u .pre .0) is
 
 module _ (c : tie.Else3) where

@@ -12,7 +12,7 @@ use Rattle.cells.specs.Neighbour.{NoDirection, Neighbour, Outside, NeighbourOf}
 use Rattle.cells.specs.declared.Answer.{Answer}
 use Rattle.cells.proofs.Decisions.{passes, deep-enough, decided-past, opening-refuses, opening-passes, opening-known}
 use Rattle.cells.proofs.NeighbourLaws.{neighbours}
-use Rattle.cells.proofs.Words.{bits, code-fits, signed-axes}
+use Rattle.cells.proofs.Words.{wordBits, code-fits, signed-axes}
 use Rattle.records.specs.Met.{unmet, MeetingOf}
 use Rattle.records.specs.declared.meetings.Meeting.{Meeting}
 use Rattle.records.proofs.CallLaws.{Checked, checks}
@@ -90,7 +90,7 @@ module _ (c : tie.Else2) where
   is-next : Neighbour (D (t (e n))) (code (t (e n))) (d (t (e n))) m
   is-next = opening-known (neighbours (D (t (e n))) (code (t (e n))) (d (t (e n)))) (n .neighbour .result) (decided n) success
 
-  small : m < 2 ^ bits
+  small : m < 2 ^ wordBits
   small = code-fits (D (t (e n))) m (known (e n) .shallow) (is-next .is-proper)
 
 returns : tie.Need-returns
