@@ -1,36 +1,38 @@
 -- Steps and directions as numbers. Assumes nothing.
-use mathlib.Core.Path.{_≡_, refl, sym, _∙_}
-use mathlib.Core.Bool.{Bool, true, false, _&&_, not}
+use mathlib.Core.Path.{_≡_, refl, ap}
+use mathlib.Core.Logic.{_⊎_, inl, inr}
 use Prim.Native.Nat.{ℕ, zero, suc, _+_, _*_, _<_, _≤_}
 use native.Mathlib.Omega.{arith}
-use lib.Dec.{leb, eqb}
-use borrow.Author.Tests.{le-leb, lt-leb, eq-eqb, eqb-true}
 use lib.IntN.{ℤ, pos, negsuc}
-use Rattle.cells.specs.Neighbour.{isStep, isNone, isDirection}
 use Rattle.cells.specs.Inner.{digitOf, Direction}
-use Rattle.cells.specs.Place.{EachAxis, allAxes}
-use Rattle.cells.proofs.Bools.{both-true, refuted, clash}
+use Rattle.cells.specs.Place.{EachAxis}
 use Rattle.cells.proofs.Integers.{above, below}
-use Rattle.cells.proofs.Places.{each-axis, each-true, all-pass}
+use Rattle.cells.proofs.Places.{each-axis}
 use Rattle.cells.proofs.Rules.{forth}
 
 -- ---- a step and its digit
 
-step-digit : (z : ℤ) → isStep z ≡ leb (digitOf z) 2
-unfolding digitOf isStep
-step-digit (pos zero) = refl
-step-digit (pos (suc zero)) = refl
-step-digit (pos (suc (suc n))) = refl
-step-digit (negsuc zero) = refl
-step-digit (negsuc (suc n)) = refl
+digit-step : (z : ℤ) → digitOf z ≤ 2 → (z ≡ negsuc 0) ⊎ ((z ≡ pos 0) ⊎ (z ≡ pos 1))
+unfolding digitOf
+digit-step (pos zero) h = inr (inl refl)
+digit-step (pos (suc zero)) h = inr (inr refl)
+digit-step (pos (suc (suc n))) h = absurd (omega arith)
+digit-step (negsuc zero) h = inl refl
+digit-step (negsuc (suc n)) h = absurd (omega arith)
 
-none-digit : (z : ℤ) → isNone z ≡ eqb (digitOf z) 0
-unfolding digitOf isNone
-none-digit (pos zero) = refl
-none-digit (pos (suc zero)) = refl
-none-digit (pos (suc (suc n))) = refl
-none-digit (negsuc zero) = refl
-none-digit (negsuc (suc n)) = refl
+step-digit : {z : ℤ} → (z ≡ negsuc 0) ⊎ ((z ≡ pos 0) ⊎ (z ≡ pos 1)) → digitOf z ≤ 2
+unfolding digitOf
+step-digit (inl e) = omega (arith, ap digitOf e)
+step-digit (inr (inl e)) = omega (arith, ap digitOf e)
+step-digit (inr (inr e)) = omega (arith, ap digitOf e)
+
+no-digit : (z : ℤ) → digitOf z ≡ 0 → z ≡ pos 0
+unfolding digitOf
+no-digit (pos zero) e = refl
+no-digit (pos (suc zero)) e = absurd (omega arith)
+no-digit (pos (suc (suc n))) e = absurd (omega arith)
+no-digit (negsuc zero) e = absurd (omega arith)
+no-digit (negsuc (suc n)) e = absurd (omega arith)
 
 -- the digit is the step with one added
 pub forth-step : (z : ℤ) → digitOf z ≤ 2 → above z + 1 ≡ forth (digitOf z) + below z
@@ -46,23 +48,17 @@ forth-step (negsuc (suc n)) h = absurd (omega arith)
 module _ (d : ℕ → ℤ) where
   -- a step that is none: no direction
   pub bad-step : (a : ℕ) → a < 3 → 2 < digitOf (d a) → Direction d 0
-  unfolding isDirection
-  bad-step a h b = record {
-    bad = λ _. refuted (isDirection d) (λ e. clash (each-true (λ a. isStep (d a)) (both-true (allAxes (λ a. isStep (d a))) _ e .0) a h) (step-digit (d a) ∙ lt-leb _ 2 b));
-    good = λ h. absurd (h refl);
-    small = omega arith;
-    digits = λ h. absurd (h refl);
-  }
+  bad-step a h b = record { bad = λ _ is. omega (arith, step-digit (is .steps a h)); good = λ h. absurd (h refl); small = omega arith; digits = λ h. absurd (h refl) }
 
   -- three steps, and their number
   abbrev pub numberOf : ℕ
   numberOf = digitOf (d 0) + 3 * digitOf (d 1) + 9 * digitOf (d 2)
 
   pub numbered : EachAxis (λ a. digitOf (d a) ≤ 2) → Direction d numberOf
-  unfolding isDirection
+  unfolding digitOf
   numbered h = record {
-    bad = λ e. rw (steps, all-pass (λ a. isNone (d a)) (each-axis _ (none 0 (omega arith)) (none 1 (omega arith)) (none 2 (omega arith))));
-    good = λ n. steps-and-not (allAxes (λ a. isNone (d a))) refl n;
+    bad = λ e is. is .some (each-axis _ (no-digit (d 0) (omega arith)) (no-digit (d 1) (omega arith)) (no-digit (d 2) (omega arith)));
+    good = λ n. record { steps = λ a l. digit-step (d a) (h a l); some = λ none. n (omega (arith, still none 0 (omega arith), still none 1 (omega arith), still none 2 (omega arith))) };
     small = omega (arith, x, y, z);
     digits = λ _. each-axis _ (omega (arith, x)) (omega (arith, x, y)) (omega (arith, x, y, z));
   }
@@ -76,17 +72,5 @@ module _ (d : ℕ → ℤ) where
       z : digitOf (d 2) ≤ 2
       z = h 2 (omega arith)
 
-      none : (a : ℕ) → digitOf (d a) ≡ 0 → isNone (d a) ≡ true
-      none a e = none-digit (d a) ∙ eq-eqb _ 0 e
-
-      some : (a : ℕ) → isNone (d a) ≡ true → digitOf (d a) ≡ 0
-      some a e = eqb-true _ 0 (sym (none-digit (d a)) ∙ e)
-
-      steps : allAxes (λ a. isStep (d a)) ≡ true
-      steps = all-pass (λ a. isStep (d a)) (λ a l. step-digit (d a) ∙ le-leb _ 2 (h a l))
-
-      steps-and-not : (t : Bool) → allAxes (λ a. isNone (d a)) ≡ t → (numberOf ≡ 0 → ⊥) → (allAxes (λ a. isStep (d a)) && not t) ≡ true
-      steps-and-not false e n = rw steps
-      steps-and-not true e n =
-          let all = each-true (λ a. isNone (d a)) e in
-          absurd (n (omega (arith, some 0 (all 0 (omega arith)), some 1 (all 1 (omega arith)), some 2 (all 2 (omega arith)))))
+      still : EachAxis (λ a. d a ≡ pos 0) → EachAxis (λ a. digitOf (d a) ≡ 0)
+      still none a l = ap digitOf (none a l)

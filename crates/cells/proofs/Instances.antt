@@ -4,13 +4,13 @@ use mathlib.Core.Path.{_≡_, refl, ap}
 use mathlib.Core.Logic.{inl, inr}
 use Prim.Native.Nat.{ℕ}
 use native.Mathlib.Omega.{arith}
-use lib.IntN.{pos, negsuc}
+use lib.IntN.{ℤ, pos, negsuc}
 use Rattle.cells.specs.Cell.{topBit, level, proper, index, side}
 use Rattle.cells.specs.Place.{axes, along, corner}
 use Rattle.cells.specs.Answer.{answer, given}
 use Rattle.cells.specs.Corners.{onGrid, isCorner, PlaceOf, CodeOf}
-use Rattle.cells.specs.Neighbour.{isStep, isNone, isDirection, Neighbour, NeighbourOf}
-use Rattle.cells.specs.Inner.{digitOf}
+use Rattle.cells.specs.Neighbour.{Neighbour, NeighbourOf}
+use Rattle.cells.specs.Inner.{digitOf, Direction}
 use Rattle.cells.specs.Payeur.{under, rule, carried}
 use Rattle.cells.specs.declared.Answer.{Answer}
 use Rattle.cells.specs.declared.corners.Corner.{Corner}
@@ -38,19 +38,24 @@ code-fails h = let e : _≡_ {A = ℕ} 6 0 = ap (λ (r : Answer). r .number) (on
 
 -- r742 with steps (-1, +1, +1), FNW, gives r675: 001's own example
 pub neighbour-holds : NeighbourOf 3 994 (axes (negsuc 0) (pos 1) (pos 1)) (given 957)
-unfolding topBit level proper isStep isNone isDirection along index side corner
+unfolding topBit level proper along index side corner digitOf
 neighbour-holds =
     let n : Neighbour 3 994 (axes (negsuc 0) (pos 1) (pos 1)) 957 = record { is-proper = refl; same-level = refl; each = each-axis _ refl refl refl } in
-    inr (passes (λ h. omega arith), inr (passes (clash refl), inr (passes (clash refl), inr (passes (λ none. none 957 n), (957, n, refl)))))
+    let d = numbered (axes (negsuc 0) (pos 1) (pos 1)) (each-axis _ (omega arith) (omega arith) (omega arith)) .good (λ e. omega arith) in
+    inr (passes (λ h. omega arith), inr (passes (clash refl), inr (passes (λ none. none d), inr (passes (λ none. none 957 n), (957, n, refl)))))
 
 -- r0 with x - 1 is outside the root
-pub neighbour-refuses : NeighbourOf 1 8 (axes (negsuc 0) (pos 0) (pos 0)) (answer 7 0 0)
-unfolding topBit level proper isStep isNone isDirection digitOf index under rule carried
-neighbour-refuses =
-    inr (passes (λ h. omega arith), inr (passes (clash refl), inr (passes (clash refl), inl (_, (none, refl), refl))))
-  where
-    none : (m : ℕ) → Neighbour 1 8 (axes (negsuc 0) (pos 0) (pos 0)) m → ⊥
-    none = missing 1 8 refl (axes (negsuc 0) (pos 0) (pos 0)) 2 (numbered (axes (negsuc 0) (pos 0) (pos 0)) (each-axis _ (omega arith) (omega arith) (omega arith))) (λ e. omega arith) (λ e. omega arith)
+abbrev west : ℕ → ℤ
+west = axes (negsuc 0) (pos 0) (pos 0)
 
-pub neighbour-fails : NeighbourOf 1 8 (axes (negsuc 0) (pos 0) (pos 0)) (given 9) → ⊥
-neighbour-fails h = let e : _≡_ {A = ℕ} 0 7 = ap (λ (r : Answer). r .number) (one-neighbour-of 1 8 (axes (negsuc 0) (pos 0) (pos 0)) _ _ h neighbour-refuses) in omega arith
+westward : Direction west 2
+unfolding digitOf
+westward = numbered west (each-axis _ (omega arith) (omega arith) (omega arith))
+
+pub neighbour-refuses : NeighbourOf 1 8 west (answer 7 0 0)
+unfolding topBit level proper index under rule carried
+neighbour-refuses =
+    inr (passes (λ h. omega arith), inr (passes (clash refl), inr (passes (λ none. none (westward .good (λ e. omega arith))), inl (_, (missing 1 8 refl west 2 westward (λ e. omega arith) (λ e. omega arith), refl), refl))))
+
+pub neighbour-fails : NeighbourOf 1 8 west (given 9) → ⊥
+neighbour-fails h = let e : _≡_ {A = ℕ} 0 7 = ap (λ (r : Answer). r .number) (one-neighbour-of 1 8 west _ _ h neighbour-refuses) in omega arith

@@ -12,7 +12,7 @@ use Rattle.cells.specs.Cell.{level, proper, index, side}
 use Rattle.cells.specs.Place.{allAxes, along, corner, Displaced}
 use Rattle.cells.specs.Answer.{given, deepest}
 use Rattle.cells.specs.Corners.{onGrid, isCorner, CodeOf}
-use Rattle.cells.specs.Neighbour.{isStep, isNone, isDirection, Neighbour}
+use Rattle.cells.specs.Neighbour.{IsDirection, Neighbour}
 use Rattle.cells.proofs.Bools.{clash}
 use Rattle.cells.proofs.Decisions.{passes, deep-enough}
 use Rattle.cells.proofs.Cells.{level-le, level-is}
@@ -64,14 +64,10 @@ root-still b D m d l e =
     let f = displaced→ d (side D 1) 0 0 (side-pos D 1) (subst₂ (λ (x y : ℕ). Displaced (d *ℤ pos (side D 1)) x y) c n e) in
     omega arith
 
-none-still : (z : ℤ) → above z ≡ below z → isNone z ≡ true
-unfolding isNone
+none-still : (z : ℤ) → above z ≡ below z → z ≡ pos 0
 none-still (pos zero) e = refl
 none-still (pos (suc n)) e = absurd (omega arith)
 none-still (negsuc n) e = absurd (omega arith)
 
-pub root-alone : (D m : ℕ) (d : ℕ → ℤ) → isDirection d ≡ true → Neighbour D 1 d m → ⊥
-unfolding isDirection
-root-alone D m d h n =
-    let none : allAxes (λ a. isNone (d a)) ≡ true = all-pass (λ a. isNone (d a)) (λ a l. none-still (d a) (root-still (2 ^ a) D m (d a) (n .same-level) (n .each a l))) in
-    false≢true (rw none at (both-true (allAxes (λ a. isStep (d a))) _ h .1))
+pub root-alone : (D m : ℕ) (d : ℕ → ℤ) → IsDirection d → Neighbour D 1 d m → ⊥
+root-alone D m d h n = h .some (λ a l. none-still (d a) (root-still (2 ^ a) D m (d a) (n .same-level) (n .each a l)))

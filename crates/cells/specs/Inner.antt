@@ -5,7 +5,7 @@ use mathlib.Core.Bool.{Bool, true, false}
 use Prim.Native.Nat.{ℕ, zero, suc, _/_, _%_, _^_, _≤_, _<_}
 use lib.IntN.{ℤ, pos, negsuc}
 use Rattle.cells.specs.Place.{EachAxis}
-use Rattle.cells.specs.Neighbour.{isDirection}
+use Rattle.cells.specs.Neighbour.{IsDirection}
 
 -- a step as a digit: 0 for none, 1 for forth, 2 for back, 3 for what is no step
 unfoldable pub digitOf : ℤ → ℕ
@@ -17,8 +17,8 @@ digitOf (negsuc (suc n)) = 3
 
 -- n is the number of the direction d, 0 where there is none; its digits are the steps
 pub record Direction (d : ℕ → ℤ) (n : ℕ) : Type 0 where
-  pub bad : n ≡ 0 → isDirection d ≡ false
-  pub good : (n ≡ 0 → ⊥) → isDirection d ≡ true
+  pub bad : n ≡ 0 → IsDirection d → ⊥
+  pub good : (n ≡ 0 → ⊥) → IsDirection d
   pub small : n < 27
   pub digits : (n ≡ 0 → ⊥) → EachAxis (λ a. digitOf (d a) ≡ n / 3 ^ a % 3)
 

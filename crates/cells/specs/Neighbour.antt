@@ -1,37 +1,24 @@
 -- The neighbour address by geometry: what the call `neighbour` answers. Document 01, "Neighbours". Definitions only.
 use mathlib.Core.Path.{_≡_}
-use mathlib.Core.Bool.{Bool, true, false, _&&_, not}
+use mathlib.Core.Logic.{_⊎_}
+use mathlib.Core.Bool.{true}
 use mathlib.Core.List.{[], _∷_}
-use Prim.Native.Nat.{ℕ, zero, suc, _^_}
+use Prim.Native.Nat.{ℕ, _^_}
 use lib.IntN.{ℤ, pos, negsuc, _*ℤ_}
 use Rattle.cells.specs.Cell.{level, proper, side}
-use Rattle.cells.specs.Place.{EachAxis, allAxes, corner, Displaced}
+use Rattle.cells.specs.Place.{EachAxis, corner, Displaced}
 use Rattle.cells.specs.Answer.{answer, given, Test, Decided, alone, refuses, deepest, TooDeep}
 use Rattle.cells.specs.Corners.{NoCell}
 use Rattle.cells.specs.declared.Answer.{Answer}
 
--- ---- directions: three steps, each -1, 0 or 1, not all 0
-
-unfoldable pub isStep : ℤ → Bool
-isStep (pos zero) = true
-isStep (pos (suc zero)) = true
-isStep (pos (suc (suc n))) = false
-isStep (negsuc zero) = true
-isStep (negsuc (suc n)) = false
-
-unfoldable pub isNone : ℤ → Bool
-isNone (pos zero) = true
-isNone (pos (suc n)) = false
-isNone (negsuc n) = false
-
-unfoldable pub isDirection : (ℕ → ℤ) → Bool
-isDirection d = allAxes (λ a. isStep (d a)) && not (allAxes (λ a. isNone (d a)))
+-- d is a direction: three steps, each -1, 0 or 1, not all 0
+pub record IsDirection (d : ℕ → ℤ) : Type 0 where
+  pub steps : EachAxis (λ a. (d a ≡ negsuc 0) ⊎ ((d a ≡ pos 0) ⊎ (d a ≡ pos 1)))
+  pub some : EachAxis (λ a. d a ≡ pos 0) → ⊥
 
 -- number 6: a bad direction
 abbrev pub NoDirection : (ℕ → ℤ) → Test
-NoDirection d = refuses (answer 6 1 0) (isDirection d ≡ false)
-
--- ---- the neighbour
+NoDirection d = refuses (answer 6 1 0) (IsDirection d → ⊥)
 
 -- m is the cell of the same level as c, displaced by its own side along each axis
 pub record Neighbour (D c : ℕ) (d : ℕ → ℤ) (m : ℕ) : Type 0 where

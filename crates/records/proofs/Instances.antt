@@ -11,7 +11,7 @@ use lib.ListN.{length, getD}
 use Rattle.cells.specs.Answer.{answer, given}
 use Rattle.cells.specs.Cell.{topBit, level, proper, index, side, start, span, holds, end}
 use Rattle.cells.specs.Place.{axes, along, corner, number}
-use Rattle.cells.specs.Neighbour.{isStep, isNone, isDirection, Neighbour, NeighbourOf}
+use Rattle.cells.specs.Neighbour.{Neighbour, NeighbourOf}
 use Rattle.cells.specs.declared.Answer.{Answer}
 use Rattle.cells.proofs.Bools.{clash}
 use Rattle.cells.proofs.Decisions.{passes}
@@ -114,7 +114,7 @@ bigger = part-made 2 two 81 1 1 (lit≤ tt) before (λ i a b. absurd (omega arit
     inside (suc (suc i)) a b = absurd (omega arith)
 
 meeting : MeetingOf 2 two 67 (axes (pos 0) (pos 1) (pos 0)) (record { answer = given 1; at = 1; n = 1 })
-unfolding topBit level proper isStep isNone isDirection
+unfolding topBit level proper
 meeting =
     inr (passes (λ h. omega arith), inr (sound, inr (passes (clash refl), inr (passes (clash refl), inr (passes (λ none. none 81 north), (81, north, bigger, refl))))))
 
@@ -136,14 +136,14 @@ abbrev r1 : List ℕ
 r1 = 9 ∷ []
 
 outside : (m : ℕ) → Neighbour 1 8 (axes (negsuc 0) (pos 0) (pos 0)) m → ⊥
-unfolding topBit level proper isStep isNone isDirection
+unfolding topBit level proper
 outside m n =
     let given-m : NeighbourOf 1 8 (axes (negsuc 0) (pos 0) (pos 0)) (given m) = inr (passes (λ h. omega arith), inr (passes (clash refl), inr (passes (clash refl), inr (passes (λ none. none m n), (m, n, refl))))) in
     let e : _≡_ {A = ℕ} 0 7 = ap (λ (r : Answer). r .number) (one-neighbour-of 1 8 (axes (negsuc 0) (pos 0) (pos 0)) _ _ given-m neighbour-refuses) in
     omega arith
 
 pub met-refuses : MetOf 1 r1 (5, 8) 8 (axes (negsuc 0) (pos 0) (pos 0)) [] (5, 8)
-unfolding topBit level proper isStep isNone isDirection early fault
+unfolding topBit level proper early fault
 met-refuses = record { meeting = unmet (answer 7 0 0); found = refused; codes = refl; memory = refl; begins = refl }
   where
     refused : MeetingOf 1 r1 8 (axes (negsuc 0) (pos 0) (pos 0)) (unmet (answer 7 0 0))

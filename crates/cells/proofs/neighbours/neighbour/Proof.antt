@@ -13,7 +13,7 @@ use lib.IntN.{ℤ}
 use Rattle.cells.specs.Cell.{level, proper, index}
 use Rattle.cells.specs.Place.{axes}
 use Rattle.cells.specs.Answer.{given, Decided, alone, deepest}
-use Rattle.cells.specs.Neighbour.{isDirection, NoDirection, Neighbour, Outside, NeighbourOf}
+use Rattle.cells.specs.Neighbour.{IsDirection, NoDirection, Neighbour, Outside, NeighbourOf}
 use Rattle.cells.specs.declared.Answer.{Answer}
 use Rattle.cells.specs.Inner.{Direction}
 use Rattle.cells.specs.Payeur.{carried, stepped}
@@ -89,7 +89,7 @@ module _ (l : tie.At-loop Inv-loop μ-loop) where
   some : d q ≡ 0 → ⊥
   some = l .before .if3 .left
 
-  good : isDirection (steps q) ≡ true
+  good : IsDirection (steps q)
   good = directed q .good some
 
   -- no carry is left: the address is known, and fits the word
@@ -111,7 +111,7 @@ returns-4 c =
     let x = q l in
     past x _
     (inr (
-      passes (clash (good l)),
+      passes (λ none. none (good l)),
       inl (_, (missing (D x) (code x) (is x) (steps x) (d x) (directed x) (some l) (λ z. omega (arith, e, z, c .before .before .loop-test .taken)), refl), c .refusal4 .ensures),
     ))
 
@@ -130,7 +130,7 @@ returns-5 c =
     let x = q l in
     let w = worked l (c .before .loop-test .left) in
     let n = found (D x) (code x) (is x) (steps x) (d x) (directed x) (some l) (w .0) in
-    past x _ (inr (passes (clash (good l)), inr (passes (λ none. none _ n), (_, n, c .success .ensures ∙ ap given (w .1)))))
+    past x _ (inr (passes (λ none. none (good l)), inr (passes (λ none. none _ n), (_, n, c .success .ensures ∙ ap given (w .1)))))
 
 pub neighbour-spec : {M : Type 1} → statement M
 neighbour-spec =
