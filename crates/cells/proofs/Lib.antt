@@ -28,4 +28,3 @@ pub mod Sums
 -- what follows of the calls, and instances
 pub mod Theorems
 pub mod Instances
-pub mod Former
