@@ -37,30 +37,18 @@ fault-is D l i = rw (early-past D l i, eight-run l i)
 
 -- ---- the walk's beginning and a step: c is the next code
 
-pub begins : (D : ℕ) (l : List ℕ) (w : Walk) → w .number ≡ 0 → w .passed ≡ 0 → w .last ≡ 0 → w .past ≡ 0 → w .run ≡ 0 → w .sum ≡ 0 → Walked D l 0 w
+going : {D : ℕ} {l : List ℕ} {i : ℕ} {w : Walk} → w .number ≡ 0 → Faultless D l i w → Walked D l i w
+going z k = record { stopped = λ n. absurd (n z); is-number = λ n. absurd (n z); kept = λ _. k }
+
+pub begins : (D : ℕ) (l : List ℕ) → Walked D l 0 (record { number = 0; passed = 0; last = 0; past = 0; run = 0; sum = 0 })
 unfolding lastOf pastOf voxels runOf
-begins D l w z p a b c d = record {
-  stopped = λ n. absurd (n z);
-  is-number = λ n. absurd (n z);
-  kept = λ _. record {
-    faultless = λ j h. absurd (omega arith);
-    is-passed = p;
-    is-last = a;
-    is-past = b;
-    is-run = c;
-    is-sum = d;
-    few = omega arith;
-    count = zero-le;
-    within = omega arith;
-  };
-}
+begins D l =
+    going refl
+    (record { faultless = λ j h. absurd (omega arith); is-passed = refl; is-last = refl; is-past = refl; is-run = refl; is-sum = refl; few = zero-le; count = zero-le; within = zero-le })
 
 -- a walk that has ended stays as it is
 pub stays : {D : ℕ} {l : List ℕ} {i : ℕ} {w : Walk} → Walked D l i w → (w .number ≡ 0 → ⊥) → Walked D l (i + 1) w
 stays k some = record { stopped = λ n. rw add-one (first-more (k .stopped n)); is-number = k .is-number; kept = λ z. absurd (some z) }
-
-lt-split : (j i : ℕ) → j < suc i → (j ≡ i) ⊎ (j < i)
-lt-split j i h = eq-or-lt-of-le (le-of-suc-le-suc h)
 
 module _ {D : ℕ} {l : List ℕ} {i : ℕ} {w : Walk} {c : ℕ} (k : Faultless D l i w) (e : getD l i 0 ≡ c) where
   next-is : runOf l (suc i) ≡ nextRun (w .last) (w .run) c
@@ -96,21 +84,18 @@ module _ {D : ℕ} {l : List ℕ} {i : ℕ} {w : Walk} {c : ℕ} (k : Faultless 
   goes p h some r number passed last past run sum =
       let none : fault D l i ≡ 0 = rw (by-kept, p, le-ltb (start D c) (w .past) h, ne-eqb (nextRun (w .last) (w .run) c) 8 some) in
       rw add-one
+      (going number
       (record {
-        stopped = λ n. absurd (n number);
-        is-number = λ n. absurd (n number);
-        kept = λ z. record {
-          faultless = λ j b. ⊎-elim (λ (x : j ≡ i). ap (fault D l) x ∙ none) (λ (x : j < i). k .faultless j x) (lt-split j i b);
-          is-passed = omega (arith, k .is-passed);
-          is-last = last ∙ sym e;
-          is-past = past ∙ ap (end D) (sym e);
-          is-run = run ∙ sym next-is;
-          is-sum = sum ∙ rw (e, k .is-sum);
-          few = omega (arith, k .few);
-          count = omega (arith, k .count, span-pos D c);
-          within = omega (arith, within D c p);
-        };
-      })
+        faultless = λ j b. ⊎-elim (λ (x : j ≡ i). ap (fault D l) x ∙ none) (k .faultless j) (eq-or-lt-of-le (le-of-suc-le-suc b));
+        is-passed = omega (arith, k .is-passed);
+        is-last = last ∙ sym e;
+        is-past = past ∙ ap (end D) (sym e);
+        is-run = run ∙ sym next-is;
+        is-sum = sum ∙ rw (e, k .is-sum);
+        few = omega (arith, k .few);
+        count = omega (arith, k .count, span-pos D c);
+        within = omega (arith, within D c p);
+      }))
 
 -- ---- the voxels
 
