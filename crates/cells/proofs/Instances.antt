@@ -45,10 +45,10 @@ neighbour-holds =
     inr (passes (λ h. omega arith), inr (passes (clash refl), inr (passes (λ none. none d), inr (passes (λ none. none 957 n), (957, n, refl)))))
 
 -- r0 with x - 1 is outside the root
-abbrev west : ℕ → ℤ
+abbrev pub west : ℕ → ℤ
 west = axes (negsuc 0) (pos 0) (pos 0)
 
-westward : Direction west 2
+pub westward : Direction west 2
 unfolding digitOf
 westward = numbered west (each-axis _ (omega arith) (omega arith) (omega arith))
 

@@ -6,23 +6,25 @@ use mathlib.Core.List.{List, [], _∷_}
 use Prim.Native.Nat.{ℕ, zero, suc, _≤_, _<_}
 use native.Mathlib.Omega.{arith}
 use lib.Dec.{lit<, lit≤, eqb, eqb→eq}
-use lib.IntN.{pos, negsuc}
+use lib.IntN.{pos}
 use lib.ListN.{length, getD}
 use Rattle.cells.specs.Answer.{answer, given}
 use Rattle.cells.specs.Cell.{topBit, level, proper, index, side, start, span, holds, end}
 use Rattle.cells.specs.Place.{axes, along, corner, number}
 use Rattle.cells.specs.Neighbour.{Neighbour, NeighbourOf}
+use Rattle.cells.specs.Inner.{digitOf}
 use Rattle.cells.specs.declared.Answer.{Answer}
 use Rattle.cells.proofs.Bools.{clash}
 use Rattle.cells.proofs.Decisions.{passes}
 use Rattle.cells.proofs.Places.{each-axis}
+use Rattle.cells.proofs.Directions.{numbered}
 use Rattle.cells.proofs.Table.{at}
 use Rattle.cells.proofs.NeighbourLaws.{one-neighbour-of}
-use Rattle.cells.proofs.Instances.{neighbour-refuses}
+use Rattle.cells.proofs.Instances.{west, westward, neighbour-refuses}
 use Rattle.records.specs.Record.{black}
 use Rattle.records.specs.Count.{count}
 use Rattle.records.specs.Fault.{allFrom, early, eightAt, fault, Faulty}
-use Rattle.records.specs.Calls.{inRoot, CheckOf, LookupOf, VolumeOf}
+use Rattle.records.specs.Calls.{CheckOf, LookupOf, VolumeOf}
 use Rattle.records.specs.Met.{MetPart, unmet, MeetingOf, MetOf, MetAtOf}
 use Rattle.records.proofs.Part.{part-made}
 use Rattle.records.proofs.CallLaws.{one-check, one-lookup, one-volume}
@@ -50,7 +52,7 @@ check-fails h = let e : _≡_ {A = ℕ} 2 1 = ap (λ (r : Answer). r .place) (on
 
 -- r057 stands at 3, 1, 3
 pub lookup-holds : LookupOf 3 one 3 1 3 (given 1)
-unfolding inRoot number level index span start holds black
+unfolding number level index span start holds black
 lookup-holds = inr (passes (λ h. omega arith), inr (none-faulty, inr (passes (clash refl), refl)))
 
 pub lookup-fails : LookupOf 3 one 3 1 3 (given 0) → ⊥
@@ -114,9 +116,10 @@ bigger = part-made 2 two 81 1 1 (lit≤ tt) before (λ i a b. absurd (omega arit
     inside (suc (suc i)) a b = absurd (omega arith)
 
 meeting : MeetingOf 2 two 67 (axes (pos 0) (pos 1) (pos 0)) (record { answer = given 1; at = 1; n = 1 })
-unfolding topBit level proper
+unfolding topBit level proper digitOf
 meeting =
-    inr (passes (λ h. omega arith), inr (sound, inr (passes (clash refl), inr (passes (clash refl), inr (passes (λ none. none 81 north), (81, north, bigger, refl))))))
+    let d = numbered (axes (pos 0) (pos 1) (pos 0)) (each-axis _ (omega arith) (omega arith) (omega arith)) .good (λ e. omega arith) in
+    inr (passes (λ h. omega arith), inr (sound, inr (passes (clash refl), inr (passes (λ none. none d), inr (passes (λ none. none 81 north), (81, north, bigger, refl))))))
 
 pub met-holds : MetOf 2 two (5, 0) 67 (axes (pos 0) (pos 1) (pos 0)) (10 ∷ []) (5, 4)
 met-holds = record { meeting = _; found = meeting; codes = refl; memory = refl; begins = refl }
@@ -135,16 +138,16 @@ met-at-fails h = let e : _≡_ {A = ℕ} 0 1 = ap (λ (r : Answer). r .place) (o
 abbrev r1 : List ℕ
 r1 = 9 ∷ []
 
-outside : (m : ℕ) → Neighbour 1 8 (axes (negsuc 0) (pos 0) (pos 0)) m → ⊥
+outside : (m : ℕ) → Neighbour 1 8 west m → ⊥
 unfolding topBit level proper
 outside m n =
-    let given-m : NeighbourOf 1 8 (axes (negsuc 0) (pos 0) (pos 0)) (given m) = inr (passes (λ h. omega arith), inr (passes (clash refl), inr (passes (clash refl), inr (passes (λ none. none m n), (m, n, refl))))) in
-    let e : _≡_ {A = ℕ} 0 7 = ap (λ (r : Answer). r .number) (one-neighbour-of 1 8 (axes (negsuc 0) (pos 0) (pos 0)) _ _ given-m neighbour-refuses) in
+    let given-m : NeighbourOf 1 8 west (given m) = inr (passes (λ h. omega arith), inr (passes (clash refl), inr (passes (λ none. none (westward .good (λ e. omega arith))), inr (passes (λ none. none m n), (m, n, refl))))) in
+    let e : _≡_ {A = ℕ} 0 7 = ap (λ (r : Answer). r .number) (one-neighbour-of 1 8 west _ _ given-m neighbour-refuses) in
     omega arith
 
-pub met-refuses : MetOf 1 r1 (5, 8) 8 (axes (negsuc 0) (pos 0) (pos 0)) [] (5, 8)
+pub met-refuses : MetOf 1 r1 (5, 8) 8 west [] (5, 8)
 unfolding topBit level proper early fault
 met-refuses = record { meeting = unmet (answer 7 0 0); found = refused; codes = refl; memory = refl; begins = refl }
   where
-    refused : MeetingOf 1 r1 8 (axes (negsuc 0) (pos 0) (pos 0)) (unmet (answer 7 0 0))
-    refused = inr (passes (λ h. omega arith), inr (alone-good 1 9 refl 1, inr (passes (clash refl), inr (passes (clash refl), inl (_, (outside, refl), refl)))))
+    refused : MeetingOf 1 r1 8 west (unmet (answer 7 0 0))
+    refused = inr (passes (λ h. omega arith), inr (alone-good 1 9 refl 1, inr (passes (clash refl), inr (passes (λ none. none (westward .good (λ e. omega arith))), inl (_, (outside, refl), refl)))))

@@ -1,6 +1,6 @@
 -- What the calls `check`, `lookup` and `volume` answer: document 01, "Lists" and "Numbers a call gives". Definitions only.
 use mathlib.Core.Path.{_≡_}
-use mathlib.Core.Bool.{Bool, false}
+use mathlib.Core.Bool.{false}
 use mathlib.Core.List.{List, [], _∷_}
 use Prim.Native.Nat.{ℕ, _^_}
 use lib.Dec.{ltb}
@@ -16,13 +16,9 @@ use Rattle.records.specs.Fault.{Faulty}
 abbrev pub CheckOf : ℕ → List ℕ → Answer → Type 0
 CheckOf D l = Decided alone (TooDeep deepest D ∷ Faulty D l 1 ∷ []) (λ r. r ≡ given (length l))
 
--- whether the voxel at x lies in the root
-unfoldable pub inRoot : ℕ → (ℕ → ℕ) → Bool
-inRoot D x = allAxes (λ a. ltb (x a) (2 ^ D))
-
--- number 6: a voxel outside the root
+-- number 6: a voxel at x, outside the root
 abbrev pub NoVoxel : ℕ → (ℕ → ℕ) → Test
-NoVoxel D x = refuses (answer 6 0 0) (inRoot D x ≡ false)
+NoVoxel D x = refuses (answer 6 0 0) (allAxes (λ a. ltb (x a) (2 ^ D)) ≡ false)
 
 -- THE CALL lookup: 1 for a black voxel, 0 for a white one
 abbrev pub LookupOf : ℕ → List ℕ → ℕ → ℕ → ℕ → Answer → Type 0

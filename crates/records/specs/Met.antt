@@ -6,7 +6,7 @@ use mathlib.Core.List.{List, [], _∷_}
 use Prim.Native.Nat.{ℕ, _+_, _*_, _≤_, _<_}
 use lib.IntN.{ℤ}
 use lib.ListN.{length, getD, take, drop}
-use Rattle.cells.specs.Answer.{given, Test, Decided, deepest, TooDeep}
+use Rattle.cells.specs.Answer.{given, Decided, deepest, TooDeep}
 use Rattle.cells.specs.Cell.{start, holds}
 use Rattle.cells.specs.Corners.{NoCell}
 use Rattle.cells.specs.Neighbour.{NoDirection, Neighbour, Outside}
@@ -25,10 +25,6 @@ pub record MetPart (D : ℕ) (l : List ℕ) (m at n : ℕ) : Type 0 where
   -- with none, it begins where the cell would be inserted: after the leaves that start before the cell
   pub inserted : n ≡ 0 → (i : ℕ) → i < length l → (i < at) ↔ (start D (getD l i 0) < start D m)
 
--- the tests of both calls
-abbrev pub metTests : ℕ → List ℕ → ℕ → (ℕ → ℤ) → List Test
-metTests D l c d = TooDeep deepest D ∷ Faulty D l 1 ∷ NoCell D c ∷ NoDirection d ∷ Outside D c d ∷ []
-
 -- a refusal, with the empty part at the list's beginning
 abbrev pub unmet : Answer → Meeting
 unmet a = record { answer = a; at = 0; n = 0 }
@@ -36,7 +32,7 @@ unmet a = record { answer = a; at = 0; n = 0 }
 -- What both calls find: an answer, and the part of n leaves that begins at index `at`. Success tells where the part begins.
 abbrev pub MeetingOf : ℕ → List ℕ → ℕ → (ℕ → ℤ) → Meeting → Type 0
 MeetingOf D l c d =
-    Decided unmet (metTests D l c d)
+    Decided unmet (TooDeep deepest D ∷ Faulty D l 1 ∷ NoCell D c ∷ NoDirection d ∷ Outside D c d ∷ [])
     (λ r. (m : ℕ) × Neighbour D c d m × MetPart D l m (r .at) (r .n) × (r .answer ≡ given (r .at)))
 
 -- THE CALL met: the part r of the caller's own list l, not a copy. p is where l begins in memory and q where r does: a block and a place in it, in bytes.

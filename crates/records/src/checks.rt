@@ -11,10 +11,11 @@ use cells::inner::refusal;
 use cells::inner::success;
 ghost use mathlib.Core.Path.{_≡_};
 ghost use Prim.Native.Nat.{_≤_, _<_, _^_};
+ghost use lib.Dec.{ltb};
 ghost use Rattle.cells.specs.Answer.{deepest};
-ghost use Rattle.cells.specs.Place.{axes};
+ghost use Rattle.cells.specs.Place.{axes, allAxes};
 ghost use Rattle.records.specs.Record.{black, Ordered};
-ghost use Rattle.records.specs.Calls.{CheckOf, inRoot, LookupOf, VolumeOf};
+ghost use Rattle.records.specs.Calls.{CheckOf, LookupOf, VolumeOf};
 
 // Whether a list is good: the number of leaves, or 1 for the depth, 2 to 4 for the first fault.
 pub fn check(depth: u32, list: &[u32]) -> Answer
@@ -44,7 +45,7 @@ pub fn volume(depth: u32, list: &[u32]) -> Answer
 // Whether the voxel x, y, z lies in the root.
 fn in_root(depth: u32, x: u32, y: u32, z: u32) -> bool
     requires { ⌜ depth ≤ deepest ⌝ }
-    ensures { λ r. ⌜ r ≡ inRoot depth (axes x y z) ⌝ }
+    ensures { λ r. ⌜ r ≡ allAxes (λ a. ltb (axes x y z a) (2 ^ depth)) ⌝ }
 {
     let side = pow2(depth);
     if side <= x {

@@ -6,24 +6,20 @@ use native.Mathlib.Omega.{arith}
 use lib.Dec.{ltb}
 use borrow.Author.Needs.{needs}
 use borrow.Author.Tests.{lt-ltb, le-ltb}
-use Rattle.records.specs.Calls.{inRoot}
 use Rattle.records.proofs.checks.in_root.Statement.{statement}
 use Rattle.records.proofs.checks.in_root.Tie as tie
 
 returns : tie.Need-returns
-unfolding inRoot
 returns c =
     let a = c .before .before .args in
     rw (le-ltb (a .x) (2 ^ a .depth) (omega (arith, c .before .pow2 .ensures, c .if1 .taken)))
 
 returns-2 : tie.Need-returns-2
-unfolding inRoot
 returns-2 c =
     let a = c .before .before .before .args in
     rw (le-ltb (a .y) (2 ^ a .depth) (omega (arith, c .before .before .pow2 .ensures, c .if2 .taken))) (sym (and-false (ltb (a .x) (2 ^ a .depth))))
 
 returns-3 : tie.Need-returns-3
-unfolding inRoot
 returns-3 c =
     let a = c .before .before .before .args in
     let e = c .before .before .pow2 .ensures in
