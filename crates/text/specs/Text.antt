@@ -15,10 +15,6 @@ unfoldable pub digits : ℕ → ℕ → ℕ → List ℕ
 digits b zero n = (48 + n % b) ∷ []
 digits b (suc f) n = elim (ltb n b) [ true ↦ (48 + n) ∷ [] | false ↦ digits b f (n / b) ++ ((48 + n % b) ∷ []) ]
 
--- a number below 10 ^ 20 in decimal
-abbrev pub decimal : ℕ → List ℕ
-decimal n = digits 10 19 n
-
 -- the last k digits of i in base 8: k labels, outermost first
 unfoldable pub labels : ℕ → ℕ → List ℕ
 labels zero i = []
@@ -43,9 +39,9 @@ leavesWord = 32 ∷ 108 ∷ 101 ∷ 97 ∷ 118 ∷ 101 ∷ 115 ∷ 32 ∷ []
 abbrev pub volumeWord : List ℕ
 volumeWord = 32 ∷ 118 ∷ 111 ∷ 108 ∷ 117 ∷ 109 ∷ 101 ∷ 32 ∷ []
 
--- a word and a number
+-- a word, and a number below 10 ^ 20 in decimal
 abbrev pub field : List ℕ → ℕ → List ℕ
-field w n = w ++ decimal n
+field w n = w ++ digits 10 19 n
 
 -- depth, leaf count and black voxels on the first line, then the paths
 unfoldable pub listing : ℕ → List ℕ → ℕ → List ℕ
