@@ -111,7 +111,6 @@ module _ (b b' : List ℕ) (i w : ℕ) (c : Changed b b' i w) where
 
     -- the blocks before it stay sound
     earlier : (j : ℕ) → j < i → soundAt b' j ≡ true
-    unfolding depthOf
     earlier j h =
         let d : word b' 0 2 ≡ word b 0 2 = other 0 2 (omega arith) (λ z. omega (arith, c .in-block)) in
         rw (same-blocks, d) (sound-ext (word b j) (word b' j) j (blocks b) (depthOf b) (λ v l. other j v l (λ z. omega (arith, c .in-block))) ∙ s .each j (omega (arith, c .block)))

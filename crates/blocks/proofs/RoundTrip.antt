@@ -85,7 +85,7 @@ module _ (D : ℕ) (l : List ℕ) (shallow : D ≤ deepest) (g : Good D l) where
   file-blocks = omega (arith, file-length D l)
 
   pub file-depth : depthOf (fileOf D l) ≡ D
-  unfolding depthOf plain
+  unfolding plain
   file-depth = word-file 0 2 (omega arith) (omega arith) ∙ words-plain D l 0 2 (omega arith)
 
   pub file-sound : Sound (fileOf D l)

@@ -128,7 +128,6 @@ module _ (b : List ℕ) (s : Sound b) where
   right-words i h = sound-words (word b i) i (blocks b) (depthOf b) (s .each i h)
 
   pub shallow-file : depthOf b ≤ deepest
-  unfolding depthOf
   shallow-file = right-words 0 (omega (arith, some-block)) .shallow
 
   pub codes-most : length (codes b) ≤ blockCodes * blocks b

@@ -72,7 +72,7 @@ blocks b = length b / blockBytes
 unfoldable pub whole : List ℕ → Bool
 whole b = leb 1 (blocks b) && eqb (length b % blockBytes) 0
 
-unfoldable pub depthOf : List ℕ → ℕ
+abbrev pub depthOf : List ℕ → ℕ
 depthOf b = word b 0 2
 
 -- whether every word of block i is right

@@ -13,9 +13,6 @@ module _ (c : tie.After-page) where
   within : c .page .result ≤ length (c .page .last .1 .1 .0)
   within = page-within _ _ (c .page .result) (c .page .last .1 .1 .0) (c .page .ensures)
 
-slice-aggregate-write-all-2 : tie.Need-slice-aggregate-write-all-2
-slice-aggregate-write-all-2 c = let p = c .before .before .before in sym (length-take-le (p .page .result) (p .page .last .1 .1 .0) (within p))
-
 pub main-spec : {M : Type 1} → statement M
 main-spec =
     tie.close
@@ -31,6 +28,6 @@ main-spec =
     (λ c. search needs)
     (λ c κs. search needs)
     (λ c. within (c .before .before))
-    slice-aggregate-write-all-2
+    (λ c. let p = c .before .before .before in sym (length-take-le (p .page .result) (p .page .last .1 .1 .0) (within p)))
     (λ c κs. search needs)
     (λ c. search needs))

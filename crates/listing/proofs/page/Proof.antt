@@ -65,9 +65,6 @@ module _ (c : tie.Else1) where
   room : d .read .result .answer .place ≤ length (d .read .last .1 .0)
   room = omega (arith, is-place, few, s .pre .1, d .read .kept .1 .0)
 
-slice-aggregate-list-text : tie.Need-slice-aggregate-list-text
-slice-aggregate-list-text c = let e = c .before in sym (length-take-le (d e .read .result .answer .place) (d e .read .last .1 .0) (room e))
-
 returns-2 : tie.Need-returns-2
 returns-2 c =
     let l = c .before .before in
@@ -90,7 +87,7 @@ page-spec =
     (λ c. search needs)
     returns
     (λ c. room c)
-    slice-aggregate-list-text
+    (λ c. let e = c .before in sym (length-take-le (d e .read .result .answer .place) (d e .read .last .1 .0) (room e)))
     (λ c κs. search needs)
     (λ c. search needs)
     (λ c. search needs)

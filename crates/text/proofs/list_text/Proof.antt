@@ -56,12 +56,6 @@ returns-2 c =
     let e = p .before .before in
     told e (text-short (t (v e)) (o (v e)) _ (p .put-listing .result) (listed e (p .put-listing .ensures)) (c .before .if2 .taken) _ (c .refusal .ensures))
 
-slice-aggregate-put-listing-2 : tie.Need-slice-aggregate-put-listing-2
-slice-aggregate-put-listing-2 c = sym (length-take-le _ _ (c .before .if2 .left))
-
-put-listing-requires-2 : tie.Need-put-listing-requires-2
-put-listing-requires-2 c κs = let k = good (c .before .before .before .before .before .before) in (k .shallow, k .good .ordered, k .few)
-
 returns-3 : tie.Need-returns-3
 returns-3 c =
     let q = c .before .before .before in
@@ -85,8 +79,8 @@ list-text-spec =
     (λ c. search needs)
     returns-2
     (λ c. search needs)
-    slice-aggregate-put-listing-2
-    put-listing-requires-2
+    (λ c. sym (length-take-le _ _ (c .before .if2 .left)))
+    (λ c κs. let k = good (c .before .before .before .before .before .before) in (k .shallow, k .good .ordered, k .few))
     (λ c κs. search needs)
     (λ c. search needs)
     returns-3)

@@ -13,9 +13,6 @@ returns c =
     let a = p .before .before .before .args in
     text-short (refusedText (a .number) (a .place)) (a .bytes .now) _ (p .put-refused .result) (p .put-refused .ensures) (c .before .if1 .taken) _ (c .refusal .ensures)
 
-slice-aggregate-put-refused-2 : tie.Need-slice-aggregate-put-refused-2
-slice-aggregate-put-refused-2 c = sym (length-take-le _ _ (c .before .if1 .left))
-
 returns-2 : tie.Need-returns-2
 returns-2 c =
     let q = c .before .before .before in
@@ -36,7 +33,7 @@ refused-text-spec =
     (λ c. search needs)
     returns
     (λ c. search needs)
-    slice-aggregate-put-refused-2
+    (λ c. sym (length-take-le _ _ (c .before .if1 .left)))
     (λ c κs. search needs)
     (λ c κs. search needs)
     (λ c. search needs)

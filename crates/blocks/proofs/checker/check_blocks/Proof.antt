@@ -41,9 +41,6 @@ module _ (c : tie.Else2) where
   whole-file : whole b ≡ true
   whole-file = let z : length b % 512 ≡ 0 = search needs in is-whole b (c .before .if1 .left) z
 
-first-unsound-requires : tie.Need-first-unsound-requires
-first-unsound-requires c κs = (whole-file c, refl)
-
 returns-3 : tie.Need-returns-3
 returns-3 c =
     let f = c .before .before in
@@ -58,9 +55,6 @@ module _ (c : tie.Else3) where
       let all : f .first-unsound .result ≡ length (b (f .before)) / 512 = search needs in
       record { is-whole = whole-file (f .before); each = stops-never (f .first-unsound .ensures) (omega arith) }
 
-leaves-of-requires : tie.Need-leaves-of-requires
-leaves-of-requires c κs = (is-sound c, refl)
-
 pub check-blocks-spec : {M : Type 1} → statement M
 check-blocks-spec =
     tie.close
@@ -69,9 +63,9 @@ check-blocks-spec =
     returns
     (λ c κs. search needs)
     returns-2
-    first-unsound-requires
+    (λ c κs. (whole-file c, refl))
     (λ c κs. search needs)
     returns-3
-    leaves-of-requires
+    (λ c κs. (is-sound c, refl))
     (λ c κs. search needs)
     (λ c. inr (sound-passes _ (is-sound (c .before .before)), c .success .ensures ∙ ap given (c .before .leaves-of .ensures))))

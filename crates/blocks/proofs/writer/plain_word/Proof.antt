@@ -38,9 +38,6 @@ returns-5 : tie.Need-returns-5
 unfolding plain
 returns-5 c = rw (c .before .if4 .taken) (omega arith)
 
-returns-7 : tie.Need-returns-7
-returns-7 c = let e = c .before in sym (is-code e ∙ List·getD-eq-default (s e .args .list .now) 0 (c .if6 .left))
-
 pub plain-word-spec : {M : Type 1} → statement M
 plain-word-spec =
     tie.close
@@ -61,4 +58,4 @@ plain-word-spec =
     (λ c. search needs)
     (λ c. search needs)
     (λ c. sym (is-code (c .before .before)))
-    returns-7)
+    (λ c. let e = c .before in sym (is-code e ∙ List·getD-eq-default (s e .args .list .now) 0 (c .if6 .left))))

@@ -17,10 +17,6 @@ Inv-loop bytes n depth i₀ i = (i ≤ n) × (depth ≡ depthOf bytes) × ((j : 
 abbrev μ-loop : tie.MeasureT-loop
 μ-loop bytes n depth i₀ i = n - i
 
-loop-holds : tie.Need-loop-holds Inv-loop μ-loop
-unfolding depthOf
-loop-holds c = (search needs, c .word-at .ensures, λ j h. absurd (omega arith))
-
 -- ---- what `is_sound` told of block i
 
 module _ (c : tie.After-is-sound Inv-loop μ-loop) where
@@ -56,7 +52,7 @@ first-unsound-spec =
     Inv-loop
     μ-loop
     (λ c κs. let s = c .before in omega (arith, whole-blocks _ (s .pre .0), s .pre .1))
-    loop-holds
+    (λ c. (search needs, c .word-at .ensures, λ j h. absurd (omega arith)))
     (λ c κs. let s = c .before .before .before .before in omega (arith, whole-blocks _ (s .pre .0), s .pre .1))
     returns
     (λ c. search needs)

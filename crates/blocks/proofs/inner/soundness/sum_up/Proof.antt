@@ -16,9 +16,6 @@ abbrev μ-loop : tie.MeasureT-loop
 loop-again : tie.Need-loop-again Inv-loop μ-loop
 loop-again c = let h = c .before .before .before in (search needs, c .took .ensures _ (h .loop .w) (h .loop .inv .1) (c .before .word-at .ensures))
 
-returns : tie.Need-returns Inv-loop μ-loop
-returns c = let h = c .before in h .loop .inv .1 ∙ ap (check _) (omega arith)
-
 pub sum-up-spec : {M : Type 1} → statement M
 sum-up-spec =
     tie.close
@@ -32,4 +29,4 @@ sum-up-spec =
     (λ c. search needs)
     (λ c. search needs)
     loop-again
-    returns)
+    (λ c. let h = c .before in h .loop .inv .1 ∙ ap (check _) (omega arith)))

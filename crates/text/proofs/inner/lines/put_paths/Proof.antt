@@ -56,9 +56,6 @@ loop-again c =
           (put-append (i .before .loop .inv .2 D shallow o) (p .put-path .ensures .0 D (proper-code i D o))),
     )
 
-same-length : tie.Need-same-length Inv-loop μ-loop
-same-length c = let h = c .before in let (D, shallow, o, room) = h .before .before .before .pre in put-length (h .loop .inv .2 D shallow o)
-
 returns : tie.Need-returns Inv-loop μ-loop
 returns c = λ D shallow o. let h = c .before in put-as (ap (pathLines D) (take-all (h .loop .i) (h .before .before .before .args .list .now) (c .loop-test .left))) (h .loop .inv .2 D shallow o)
 
@@ -75,5 +72,5 @@ put-paths-spec =
     (λ c. search needs)
     (λ c. search needs)
     loop-again
-    same-length
+    (λ c. let h = c .before in let (D, shallow, o, room) = h .before .before .before .pre in put-length (h .loop .inv .2 D shallow o))
     returns)

@@ -28,9 +28,6 @@ module _ (c : tie.At-loop Inv-loop μ-loop) where
   is-place : c .loop .place ≡ s .args .at + c .loop .i
   is-place = omega (arith, c .loop .inv .1 .place, length-take-le (c .loop .i) (s .args .word .now) (c .loop .inv .0))
 
-put-requires : tie.Need-put-requires Inv-loop μ-loop
-put-requires c κs = let h = c .before .before .before in omega (arith, is-place h, s h .pre, c .before .before .loop-test .taken)
-
 loop-again : tie.Need-loop-again Inv-loop μ-loop
 loop-again c =
     let p = c .before .before in
@@ -57,7 +54,7 @@ put-word-spec =
     μ-loop
     (λ c. (search needs, put-none))
     (λ c. search needs)
-    put-requires
+    (λ c κs. let h = c .before .before .before in omega (arith, is-place h, s h .pre, c .before .before .loop-test .taken))
     (λ c. search needs)
     (λ c. search needs)
     loop-again
