@@ -27,7 +27,7 @@ fn put_path(code: u32, bytes: &mut [u8], at: usize) -> usize
 // The paths of a list, one a line.
 fn put_paths(list: &[u32], bytes: &mut [u8], at: usize) -> usize
     requires { ⌜ ((D : ℕ) × (D ≤ deepest) × Ordered D 0 (now list) × (at + 12 * length (now list) < 2 ^ 64)) ⌝ }
-    ensures { λ r. ⌜ ((D : ℕ) → D ≤ deepest → Ordered D 0 (now (list .entry)) → Put (now (bytes .entry)) at (pathLines D (now (list .entry))) (now (bytes .exit)) r) ⌝ }
+    ensures { λ r. ⌜ ((D : ℕ) → Ordered D 0 (now (list .entry)) → Put (now (bytes .entry)) at (pathLines D (now (list .entry))) (now (bytes .exit)) r) ⌝ }
 {
     let mut place = at;
     let mut i: usize = 0;

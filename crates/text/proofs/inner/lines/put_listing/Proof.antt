@@ -20,7 +20,7 @@ returns c =
     let paths = c .before .before in
     let head = paths .before .before .before .before in
     let s = head .before .before .before .before in
-    put-append (head .put-head .ensures .0) (paths .put-paths .ensures (s .args .depth) (s .pre .0) (s .pre .1))
+    put-append (head .put-head .ensures .0) (paths .put-paths .ensures (s .args .depth) (s .pre .1))
 
 pub put-listing-spec : {M : Type 1} → statement M
 put-listing-spec = tie.close (tie.spec (λ c κs. search needs) put-paths-requires (λ c. search needs) returns)

@@ -7,7 +7,6 @@ use native.Mathlib.Omega.{arith}
 use borrow.Author.Needs.{needs}
 use lib.ListN.{length, getD, take}
 use lib.Seq.{take-all}
-use Rattle.cells.specs.Answer.{deepest}
 use Rattle.cells.specs.Cell.{proper}
 use Rattle.records.specs.Record.{Ordered}
 use Rattle.records.proofs.Fault.{member-at}
@@ -22,14 +21,14 @@ use Rattle.text.proofs.inner.lines.put_paths.Tie as tie
 -- the first i paths are put, at any depth at which the codes are proper
 abbrev Inv-loop : tie.InvT-loop
 Inv-loop list bytes₀ at place₀ i₀ bytes place i =
-    (i ≤ length list) × (place ≤ at + 12 * i) × ((D : ℕ) → D ≤ deepest → Ordered D 0 list → Put bytes₀ at (pathLines D (take i list)) bytes place)
+    (i ≤ length list) × (place ≤ at + 12 * i) × ((D : ℕ) → Ordered D 0 list → Put bytes₀ at (pathLines D (take i list)) bytes place)
 
 abbrev μ-loop : tie.MeasureT-loop
 μ-loop list bytes₀ at place₀ i₀ bytes place i = length list - i
 
 loop-holds : tie.Need-loop-holds Inv-loop μ-loop
 unfolding pathLines
-loop-holds c = (search needs, search needs, λ D h o. put-none)
+loop-holds c = (search needs, search needs, λ D o. put-none)
 
 -- ---- inside the loop
 
@@ -51,13 +50,13 @@ loop-again c =
     let n = i .before .loop .i in (
       search needs,
       omega (arith, p .put-path .ensures .1),
-      λ D shallow o.
+      λ D o.
           put-as (sym (paths-more D l n (i .loop-test .taken)) ∙ ap (λ (m : ℕ). pathLines D (take m l)) (sym (add-one n)))
-          (put-append (i .before .loop .inv .2 D shallow o) (p .put-path .ensures .0 D (proper-code i D o))),
+          (put-append (i .before .loop .inv .2 D o) (p .put-path .ensures .0 D (proper-code i D o))),
     )
 
 returns : tie.Need-returns Inv-loop μ-loop
-returns c = λ D shallow o. let h = c .before in put-as (ap (pathLines D) (take-all (h .loop .i) (h .before .before .before .args .list .now) (c .loop-test .left))) (h .loop .inv .2 D shallow o)
+returns c = λ D o. let h = c .before in put-as (ap (pathLines D) (take-all (h .loop .i) (h .before .before .before .args .list .now) (c .loop-test .left))) (h .loop .inv .2 D o)
 
 pub put-paths-spec : {M : Type 1} → statement M
 put-paths-spec =
@@ -72,5 +71,5 @@ put-paths-spec =
     (λ c. search needs)
     (λ c. search needs)
     loop-again
-    (λ c. let h = c .before in let (D, shallow, o, room) = h .before .before .before .pre in put-length (h .loop .inv .2 D shallow o))
+    (λ c. let h = c .before in let (D, shallow, o, room) = h .before .before .before .pre in put-length (h .loop .inv .2 D o))
     returns)
