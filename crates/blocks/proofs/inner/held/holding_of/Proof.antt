@@ -50,7 +50,6 @@ module _ (c : tie.After-told) where
   e = at-walk .before .before
 
   is-depth : at-walk .before .word-at .result ≡ depthOf (b e)
-  unfolding depthOf
   is-depth = at-walk .before .word-at .ensures
 
   walked : Walked (depthOf (b e)) (codes (b e)) (length (codes (b e))) (at-walk .judge-stored .result)
@@ -64,7 +63,6 @@ module _ (c : tie.After-told) where
   of-list = judged (c .told .ensures (depthOf (b e)) (codes (b e)) walked)
 
 judge-stored-requires : tie.Need-judge-stored-requires
-unfolding depthOf
 judge-stored-requires c κs = let k = checked (c .before) in (k .0, c .word-at .ensures, ap (λ (a : Answer). a .place) (k .1))
 
 returns-3 : tie.Need-returns-3
