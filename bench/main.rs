@@ -12,6 +12,11 @@ use std::time::Instant;
 
 const MOVES: [[i32; 3]; 4] = [[1, 0, 0], [1, 1, 1], [2, 2, 2], [256, 0, 0]];
 
+/// An answer that no compiler leaves out.
+fn kept(answer: Answer) {
+    unsafe { std::ptr::read_volatile(&answer) };
+}
+
 /// The median time of a job, in microseconds.
 fn median(runs: usize, mut job: impl FnMut()) -> f64 {
     job();
@@ -30,10 +35,10 @@ fn median(runs: usize, mut job: impl FnMut()) -> f64 {
 fn row(shape: &Shape, job: &str, runs: usize, mut ours: impl FnMut() -> Answer, mut plain: impl FnMut() -> Answer) {
     assert_eq!(ours(), plain(), "{} {job}", shape.name);
     let a = median(runs, || {
-        std::hint::black_box(ours());
+        kept(ours());
     });
     let b = median(runs, || {
-        std::hint::black_box(plain());
+        kept(plain());
     });
     println!("| {} | {job} | {a:.0} | {b:.0} | {:.2} |", shape.name, a / b);
 }

@@ -86,9 +86,9 @@ module _ (D c : ℕ) (d : ℕ → ℤ) where
       go : D ≤ deepest → proper D c ≡ true → Direction d (numberOf d) → (numberOf d ≡ 0 → ⊥) → (t : Bool) → eqb carry 0 ≡ t → NeighbourOf D c d (inOrOut t)
       go h p n some true z =
           let m = found D c p d (numberOf d) n some (eqb-true _ _ z) in
-          inr (not-deep D h, inr (passes (clash p), inr (passes (clash (n .good some)), inr (passes (λ none. none beside m), (beside, m, refl)))))
+          inr (not-deep D h, inr (passes (clash p), inr (passes (λ none. none (n .good some)), inr (passes (λ none. none beside m), (beside, m, refl)))))
       go h p n some false z =
-          inr (not-deep D h, inr (passes (clash p), inr (passes (clash (n .good some)), inl (_, (missing D c p d (numberOf d) n some (λ e. clash (eq-eqb carry 0 e) z), refl), refl))))
+          inr (not-deep D h, inr (passes (clash p), inr (passes (λ none. none (n .good some)), inl (_, (missing D c p d (numberOf d) n some (λ e. clash (eq-eqb carry 0 e) z), refl), refl))))
 
 -- ---- the check
 
