@@ -13,6 +13,8 @@ pub mod Levels
 pub mod Words
 pub mod Places
 pub mod CornerLaws
+-- labels worked out one by one: the sum along an axis
+pub mod Labelwise
 -- displaced places and voxels
 pub mod Displacements
 -- document 001: the rules, labels worked out by them, the loop, directions, the neighbour

@@ -73,7 +73,7 @@ module _ (D c : ℕ) (is : proper D c ≡ true) (step : ℕ → ℤ) (d : ℕ) (
   pub found : carried k i d ≡ 0 → Neighbour D c step (8 ^ k + stepped k i d)
   unfolding corner side
   found e =
-      let t = cell-at D k (stepped k i d) (level-le D c) (stepped-lt k i d) in
+      let t = cell-at D k (stepped k i d) (level-le D c) (stepped-lt k i d (direction .small)) in
       record {
         is-proper = t .is-proper;
         same-level = t .is-level;

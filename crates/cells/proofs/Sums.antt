@@ -3,7 +3,7 @@
 use mathlib.Core.Path.{_≡_, refl, _∙_}
 use mathlib.Core.Bool.{Bool, true, false}
 use mathlib.Core.List.{[]}
-use Prim.Native.Nat.{ℕ, zero, suc, _+_, _*_, _/_, _%_, _^_, _<_, zero-le, suc-le-suc}
+use Prim.Native.Nat.{ℕ, suc, _+_, _*_, _/_, _%_, _^_, _<_}
 use native.Mathlib.Nat.{add-mul}
 use native.Mathlib.Omega.{arith}
 use lib.Dec.{eqb, ltb, eqb→eq, ltb→lt}
@@ -12,8 +12,8 @@ use lib.ListN.{getD}
 use Rattle.cells.specs.Labels.{flips, carries}
 use Rattle.cells.specs.AhujaNash.{table2, plus, added, twos, summed}
 use Rattle.cells.specs.Place.{EachAxis, along, Came}
-use Rattle.cells.proofs.Power.{pow8-suc}
-use Rattle.cells.proofs.Places.{each-axis, along-carry, along-lt, same-voxel}
+use Rattle.cells.proofs.Places.{each-axis, along-lt, same-voxel}
+use Rattle.cells.proofs.Labelwise.{Labelwise, labels-lt, labels-along}
 use Rattle.cells.proofs.Table.{everywhere, at, at2, at3, at4}
 use Rattle.cells.proofs.Congruent.{congruent-equal, twos-congruent}
 use Rattle.cells.proofs.Displacements.{displaced-parts}
@@ -75,29 +75,42 @@ label-sum a v t c ha hv ht hc = record {
 
 -- ---- all labels
 
+-- the labels that are left, the bits that are added to them, and the carry to the last of them
+record Sum : Type 0 where
+  v : ℕ
+  t : ℕ
+  c : ℕ
+  small : c < 2
+
 module _ (a : ℕ) (axis : a < 3) where
-  pub added-lt : (n v t c : ℕ) → c < 2 → added a n v t c < 8 ^ n
+  last-sum : (s : Sum) → LabelSum a (s .v % 8) (s .t % 2) (s .c)
+  last-sum s = label-sum a (s .v % 8) (s .t % 2) (s .c) axis (omega arith) (omega arith) (s .small)
+
+  by-table : Labelwise Sum
   unfolding added
-  added-lt zero v t c h = suc-le-suc zero-le
-  added-lt (suc n) v t c h =
-      let x = label-sum a (v % 8) (t % 2) c axis (omega arith) (omega arith) h in
-      omega (arith, pow8-suc n, added-lt n (v / 8) (t / 2) (out a (v % 8) (t % 2) c) (x .carry), x .label)
+  by-table = record {
+    label = λ s. new a (s .v % 8) (s .t % 2) (s .c);
+    next = λ s. record { v = s .v / 8; t = s .t / 2; c = out a (s .v % 8) (s .t % 2) (s .c); small = last-sum s .carry };
+    out = λ n s. added a n (s .v) (s .t) (s .c);
+    low = λ s. last-sum s .label;
+    none = λ s. refl;
+    step = λ n s. refl;
+  }
+
+  pub added-lt : (n v t c : ℕ) → c < 2 → added a n v t c < 8 ^ n
+  unfolding by-table added
+  added-lt n v t c small = labels-lt by-table n (record { v = v; t = t; c = c; small = small })
 
   -- the displacement is added on its axis, less what is lost out of the first label, and the other coordinates stay
   pub added-along : (b : ℕ) → b < 3 → (n v t c : ℕ) → c < 2 → (l : ℕ) × (along (2 ^ b) n (added a n v t c) + l * 2 ^ n ≡ along (2 ^ b) n v + on (eqb a b) (t + c))
-  unfolding along added
-  added-along b h zero v t c k = (on (eqb a b) (t + c), omega arith)
-  added-along b h (suc n) v t c k =
-      let x = label-sum a (v % 8) (t % 2) c axis (omega arith) (omega arith) k in
-      let (l, ih) = added-along b h n (v / 8) (t / 2) (out a (v % 8) (t % 2) c) (x .carry) in
-      let e = along-carry (2 ^ b) n (added a n (v / 8) (t / 2) (out a (v % 8) (t % 2) c)) (new a (v % 8) (t % 2) c) l (x .label) in
-      (l, e ∙ go (eqb a b) _ (out a (v % 8) (t % 2) c) _ ih (x .bits b h))
+  unfolding by-table along added
+  added-along b h n v t c small =
+      (_, labels-along by-table (2 ^ b) (λ n s. along (2 ^ b) n (s .v) + on (eqb a b) (s .t + s .c)) (λ n s. go (eqb a b) n s (last-sum s .bits b h)) n (record { v = v; t = t; c = c; small = small }))
     where
-      -- one label's sum and that of the labels before it
-      go : (s : Bool) (A o B : ℕ) → A ≡ along (2 ^ b) n (v / 8) + on s (t / 2 + o) → B + 2 * on s o ≡ bit b (v % 8) + on s (t % 2 + c)
-          → 2 * A + B ≡ 2 * along (2 ^ b) n (v / 8) + bit b (v % 8) + on s (t + c)
-      go true A o B e f = omega arith
-      go false A o B e f = omega arith
+      go : (e : Bool) (n : ℕ) (s : Sum) → bit b (by-table .label s) + 2 * on e (by-table .next s .c) ≡ bit b (s .v % 8) + on e (s .t % 2 + s .c)
+          → along (2 ^ b) (suc n) (s .v) + on e (s .t + s .c) ≡ 2 * (along (2 ^ b) n (s .v / 8) + on e (s .t / 2 + by-table .next s .c)) + bit b (by-table .label s)
+      go true n s f = omega arith
+      go false n s f = omega arith
 
 -- ---- THE LAW OF 000: where the displaced voxel lies in the root, adding the displacement by table 2, the last carry dropped, gives its path
 

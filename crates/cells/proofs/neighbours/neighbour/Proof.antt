@@ -97,7 +97,7 @@ module _ (l : tie.At-loop Inv-loop μ-loop) where
   worked h = finished (l .loop .inv) (omega arith)
 
   fits : l .loop .carry ≤ 0 → l .loop .rest * l .loop .weight + l .loop .done < 2 ^ wordBits
-  fits h = omega (arith, worked h, small q, stepped-lt (k q) (i q) (d q))
+  fits h = omega (arith, worked h, small q, stepped-lt (k q) (i q) (d q) (directed q .small))
 
 loop-holds : tie.Need-loop-holds Inv-loop μ-loop
 loop-holds c =
