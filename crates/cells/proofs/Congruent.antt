@@ -25,30 +25,21 @@ module _ (n : ℕ) where
   abbrev p : ℕ
   p = 2 ^ n
 
-  pub twos-lt : (d : ℤ) → twos n d < p
-  unfolding twos
-  twos-lt (pos m) = mod-lt m (pow2-pos n)
-  twos-lt (negsuc m) = omega (arith, pow2-pos n)
-
   pub twos-congruent : (d : ℤ) → Congruent p (twos n d + below d) (above d)
   unfolding twos
   twos-congruent (pos m) = record { j = m / p; k = 0; same = omega (arith, div-add-mod' m p) }
   twos-congruent (negsuc m) = record { j = 0; k = 1 + m / p; same = omega (arith, div-add-mod' m p, mod-lt m (pow2-pos n), add-mul 1 (m / p) p, one-mul p) }
 
-  -- and no other number below 2 ^ n is
-  pub twos-only : (d : ℤ) (x : ℕ) → x < p → Congruent p (x + below d) (above d) → x ≡ twos n d
-  twos-only d x h c =
-      let t = twos-congruent d in
-      congruent-equal p x (twos n d) h (twos-lt d)
-      (record { j = c .j + t .k; k = t .j + c .k; same = omega (arith, c .same, t .same, add-mul (c .j) (t .k) p, add-mul (t .j) (c .k) p) })
+  -- the difference of two remainders: with y it is x
 
-  -- as remainders
-  pub twos-parts : (d : ℤ) → (above d % p + (p - below d % p)) % p ≡ twos n d
-  twos-parts d =
-      let A : ℕ = above d % p + (p - below d % p) in
-      twos-only d (A % p) (mod-lt A (pow2-pos n))
-      (record {
-        j = A / p + above d / p;
-        k = 1 + below d / p;
-        same = omega (arith, div-add-mod' A p, div-add-mod' (above d) p, div-add-mod' (below d) p, mod-lt (below d) (pow2-pos n), add-mul (A / p) (above d / p) p, add-mul 1 (below d / p) p, one-mul p);
-      })
+  pub difference-lt : (x y : ℕ) → (x % p + (p - y % p)) % p < p
+  difference-lt x y = mod-lt (x % p + (p - y % p)) (pow2-pos n)
+
+  pub difference-congruent : (x y : ℕ) → Congruent p ((x % p + (p - y % p)) % p + y) x
+  difference-congruent x y =
+      let A : ℕ = x % p + (p - y % p) in
+      record {
+        j = A / p + x / p;
+        k = 1 + y / p;
+        same = omega (arith, div-add-mod' A p, div-add-mod' x p, div-add-mod' y p, mod-lt y (pow2-pos n), add-mul (A / p) (x / p) p, add-mul 1 (y / p) p, one-mul p);
+      }

@@ -5,7 +5,7 @@ use Prim.Native.Nat.{ℕ, zero, suc, _+_, _-_, _*_, _/_, _%_, _^_, _<_, zero-le,
 use native.Mathlib.Nat.{pow-zero, mul-one, zero-div, add-zero, add-suc, div-one}
 use native.Mathlib.Omega.{arith}
 use mathlib.Core.Bool.{Bool, true, false, _&&_}
-use Rattle.cells.specs.Place.{axes, EachAxis, allAxes, along, number}
+use Rattle.cells.specs.Place.{EachAxis, allAxes, along, number}
 use Rattle.cells.proofs.Bools.{both-true}
 use Rattle.cells.proofs.Power.{pow2-suc, pow8-pos, pow8-suc, div-pow}
 
@@ -92,9 +92,6 @@ label-axes f h =
     let z = h 2 (omega arith) in
     each-axis _ (omega arith) (omega arith) (omega arith)
 
-pub label-bit : (a i j k : ℕ) → a < 3 → i < 2 → j < 2 → k < 2 → (i + 2 * j + 4 * k) / 2 ^ a % 2 ≡ axes i j k a
-label-bit a i j k h hi hj hk = label-axes (axes i j k) (each-axis _ hi hj hk) a h
-
 -- and the coordinates of a voxel are those that its number was made of
 pub along-axes : (n : ℕ) (x : ℕ → ℕ) → EachAxis (λ a. x a < 2 ^ n) → EachAxis (λ a. along (2 ^ a) n (number n (x 0) (x 1) (x 2)) ≡ x a)
 unfolding number along
@@ -104,9 +101,6 @@ along-axes (suc n) x s a h =
     let b = label-axes (λ a. x a % 2) (λ a h. omega arith) a h in
     along-step (2 ^ a) n (number n (x 0 / 2) (x 1 / 2) (x 2 / 2)) (x 0 % 2 + 2 * (x 1 % 2) + 4 * (x 2 % 2)) (omega arith)
     ∙ omega (arith, ih, b)
-
-pub along-number : (a n x y z : ℕ) → a < 3 → x < 2 ^ n → y < 2 ^ n → z < 2 ^ n → along (2 ^ a) n (number n x y z) ≡ axes x y z a
-along-number a n x y z h hx hy hz = along-axes n (axes x y z) (each-axis _ hx hy hz) a h
 
 -- ---- a coarser cube, of n levels fewer: its cells are the finer one's voxels divided
 

@@ -20,7 +20,7 @@ use Rattle.cells.proofs.Firsts.{first-or-none}
 use Rattle.cells.proofs.Integers.{above, below}
 use Rattle.cells.proofs.Cells.{span-pos}
 use Rattle.cells.proofs.CornerLaws.{side-pos, corner-start, corner-end}
-use Rattle.cells.proofs.Places.{each-axis, each-true, along-lt, along-number, number-lt}
+use Rattle.cells.proofs.Places.{each-true, some-false, along-lt, along-axes, number-lt}
 use Rattle.cells.proofs.Displacements.{displaced-parts}
 use Rattle.cells.proofs.Views.{cube}
 use Rattle.records.specs.Record.{black, Ordered}
@@ -81,15 +81,6 @@ place-in D c p b u h =
     let e : along b D u / side D c * side D c ≡ along b (level D c) (index D c) * side D c = ap (λ (m : ℕ). m * side D c) (cube D c p b u h) in
     omega (arith, div-add-mod' (along b D u) (side D c), mod-lt (along b D u) (side-pos D c))
 
--- where not all axes pass, one fails
-fails-axis : (P : ℕ → Bool) → allAxes P ≡ false → (a : ℕ) × (a < 3) × (P a ≡ false)
-fails-axis P e = go (P 0) refl (P 1) refl e
-  where
-    go : (s : Bool) → P 0 ≡ s → (t : Bool) → P 1 ≡ t → (s && (t && P 2)) ≡ false → (a : ℕ) × (a < 3) × (P a ≡ false)
-    go false f t g h = (0, omega arith, f)
-    go true f false g h = (1, omega arith, g)
-    go true f true g h = (2, omega arith, h)
-
 module _ (D : ℕ) (d : ℕ → ℤ) (p : ℕ → Parted) (split : EachAxis (λ a. Splits (d a) (p a))) where
   module _ (c : ℕ) (is-proper : proper D c ≡ true) where
     axis-kept : leafKeeps D p c ≡ true → EachAxis (λ a. keeps (2 ^ D) (corner (2 ^ a) D c) (side D c) (p a) ≡ true)
@@ -98,11 +89,11 @@ module _ (D : ℕ) (d : ℕ → ℤ) (p : ℕ → Parted) (split : EachAxis (λ 
 
     axis-lost : leafKeeps D p c ≡ false → (a : ℕ) × (a < 3) × (keeps (2 ^ D) (corner (2 ^ a) D c) (side D c) (p a) ≡ false)
     unfolding leafKeeps keepsAlong
-    axis-lost e = fails-axis (λ a. keepsAlong D (2 ^ a) (p a) c) e
+    axis-lost e = some-false (λ a. keepsAlong D (2 ^ a) (p a) c) e
 
     -- each voxel of a leaf that is kept stays
     pub leaf-stays : leafKeeps D p c ≡ true → (u : ℕ) → holds D c u ≡ true → (v : ℕ) × Came D d u v
-    leaf-stays e u h = (v, record { root = number-lt D (moved 0) (moved 1) (moved 2); each = λ a l. rw (at a l) (image a l .1) })
+    leaf-stays e u h = (v, record { root = number-lt D (moved 0) (moved 1) (moved 2); each = λ a l. rw (along-axes D moved (λ a l. image a l .0) a l) (image a l .1) })
       where
         -- where each coordinate comes to
         moved : ℕ → ℕ
@@ -115,11 +106,6 @@ module _ (D : ℕ) (d : ℕ → ℤ) (p : ℕ → Parted) (split : EachAxis (λ 
         image a l =
             let (lo, hi) = place-in D c is-proper (2 ^ a) u h in
             keeps-place (2 ^ D) (corner (2 ^ a) D c) (side D c) (d a) (p a) (split a l) (axis-kept e a l) (along (2 ^ a) D u) lo hi
-
-        at : EachAxis (λ a. along (2 ^ a) D v ≡ moved a)
-        at a l =
-            along-number a D (moved 0) (moved 1) (moved 2) l (image 0 (omega arith) .0) (image 1 (omega arith) .0) (image 2 (omega arith) .0)
-            ∙ each-axis (λ a. axes (moved 0) (moved 1) (moved 2) a ≡ moved a) refl refl refl a l
 
     -- a leaf that is not kept strays
     pub leaf-strays : leafKeeps D p c ≡ false → Strays D (Came D d) c

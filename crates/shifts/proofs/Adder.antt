@@ -39,9 +39,11 @@ shift-lt n w q v = labels-lt by-labels n (record { w = w; q = q; v = v })
 
 pub shift-along : (a : ℕ) → a < 3 → (n w q v : ℕ) → (l : ℕ) × (along (2 ^ a) n (shift n w q v) + l * 2 ^ n ≡ along (2 ^ a) n v + along (2 ^ a) n w + bit a q)
 unfolding by-labels along shift
-shift-along a h n w q v =
-    (_, labels-along by-labels (2 ^ a) (λ n s. along (2 ^ a) n (s .v) + along (2 ^ a) n (s .w) + bit a (s .q))
-    (λ n s. omega (arith, sum-bit (s .w % 8) (s .v % 8) (s .q) a h, carry-bit (s .w % 8) (s .v % 8) (s .q) a h)) n (record { w = w; q = q; v = v }))
+shift-along a h n w q v = (
+  _,
+  labels-along by-labels (2 ^ a) (λ n s. along (2 ^ a) n (s .v) + along (2 ^ a) n (s .w) + bit a (s .q))
+      (λ n s. omega (arith, sum-bit (s .w % 8) (s .v % 8) (s .q) a h, carry-bit (s .w % 8) (s .v % 8) (s .q) a h)) n (record { w = w; q = q; v = v }),
+)
 
 -- within the root a voxel has its source's colour, past it none is black
 pub shifted-in : (D : ℕ) (l : List ℕ) (w v : ℕ) → v < 8 ^ D → shifted D l w v ≡ black D l (shift D w 0 v)

@@ -3,8 +3,7 @@ use mathlib.Core.Path.{_≡_, refl, sym, ap, _∙_}
 use Prim.Native.Nat.{ℕ, zero, suc, _+_, _*_, _/_, _%_, _^_, _<_, max}
 use native.Mathlib.Nat.{zero-div}
 use native.Mathlib.Omega.{arith}
-use Rattle.cells.specs.Place.{axes}
-use Rattle.cells.proofs.Places.{each-axis, label-bit}
+use Rattle.cells.proofs.Places.{label-axes}
 use Rattle.shifts.specs.LabelSums.{label, ones, sumLabel, carryLabel, joinLabel, Uses}
 
 -- ---- a label by its bits
@@ -18,7 +17,7 @@ module _ (f : ℕ → ℕ) (two : (b : ℕ) → f b < 2) where
   label-lt = omega (arith, two 1, two 2, two 4)
 
   pub label-is : (a : ℕ) → a < 3 → bit a (label f) ≡ f (2 ^ a)
-  label-is a h = label-bit a (f 1) (f 2) (f 4) h (two 1) (two 2) (two 4) ∙ each-axis (λ a. axes (f 1) (f 2) (f 4) a ≡ f (2 ^ a)) refl refl refl a h
+  label-is = label-axes (λ a. f (2 ^ a)) (λ a h. two (2 ^ a))
 
 label-bits : (f : ℕ) → f < 8 → f / 1 % 2 + 2 * (f / 2 % 2) + 4 * (f / 4 % 2) ≡ f
 label-bits f h = omega arith
