@@ -42,6 +42,12 @@ reached (fin false m e) p q =
     let h = ltb-true (m * up e * 1) (1 * 2 ^ 32 * down e) q in
     (lt→ltb 0 m (first-pos m (up e) (omega arith)), omega arith)
 
+-- a sign given to it
+with-sign : (t : Bool) (m : ℕ) (e : ℤ) → withSign t (fin false m e) ≡ fin t m e
+unfolding neg
+with-sign true m e = refl
+with-sign false m e = refl
+
 pub beyond : (s : ℕ) (t : Bool) (a : Float) → T (lt nought a) → lt a limit ≡ false → Rounded s (withSign t a) Bad
 unfolding lt neg Rounded Nearest
 beyond s t nan p q = absurd p
@@ -49,18 +55,13 @@ beyond s t (inf true) p q = absurd p
 beyond s true (inf false) p q = λ n w. w .0
 beyond s false (inf false) p q = λ n w. w .0
 beyond s t (fin true m e) p q = absurd p
-beyond s true (fin false m e) p q = let h = ltb-false (m * up e * 1) (1 * 2 ^ 32 * down e) q in far-is-bad s true m e (omega arith)
-beyond s false (fin false m e) p q = let h = ltb-false (m * up e * 1) (1 * 2 ^ 32 * down e) q in far-is-bad s false m e (omega arith)
+beyond s t (fin false m e) p q = let h = ltb-false (m * up e * 1) (1 * 2 ^ 32 * down e) q in rw (with-sign t m e) (far-is-bad s t m e (omega arith))
 
 pub measured-rounded : (s : ℕ) (t : Bool) (a : Float) (h : Halves) → T (positive a) → Measured s a h → Rounded s (withSign t a) (fitted t (sizeOf t (h .whole) (h .over)))
-unfolding neg
 measured-rounded s t nan h p r = absurd p
 measured-rounded s t (inf u) h p r = absurd p
 measured-rounded s t (fin true m e) h p r = absurd p
-measured-rounded s true (fin false m e) h p r =
-    rounded-fitted s (fin true m e) true (sizeOf true (h .whole) (h .over)) (nearest-size s true m e (h .whole) (h .over) (r .least) (r .most) (r .over))
-measured-rounded s false (fin false m e) h p r =
-    rounded-fitted s (fin false m e) false (sizeOf false (h .whole) (h .over)) (nearest-size s false m e (h .whole) (h .over) (r .least) (r .most) (r .over))
+measured-rounded s t (fin false m e) h p r = rw (with-sign t m e) (rounded-fitted s (fin t m e) t _ (nearest-size s t m e (h .whole) (h .over) (r .least) (r .most) (r .over)))
 
 -- ---- -d
 pub neg-neg : (d : Float) → neg (neg d) ≡ d
@@ -89,20 +90,11 @@ pub not-a-number : (s : ℕ) (d : Float) → ne d d ≡ true → Rounded s d Bad
 unfolding Rounded Nearest
 not-a-number s d p = subst (λ (x : Float). Rounded s x Bad) (sym (differs-from-itself d (subst T (sym p) tt))) (λ n w. w .0)
 
-zero-rounded : (s : ℕ) (t : Bool) (m : ℕ) (e : ℤ) → m * up e ≡ 0 → Rounded s (fin t m e) (Voxels (pos 0))
-zero-rounded s t m e z = go t
-  where
-    size : 2 * (m * up e) * 2 ^ s ≡ 0
-    size = ap (λ (x : ℕ). 2 * x * 2 ^ s) z ∙ zero-mul (2 ^ s)
-
-    none : (t : Bool) → Nearest s (fin t m e) (signed t (sizeOf t 0 false))
-    none t =
-        let z = zero-mul (down e) in
-        nearest-size s t m e 0 false (omega arith) (omega (arith, size, down-pos e)) (sym (le-ltb (0 * down e) (2 * (m * up e) * 2 ^ s) (omega (arith, size))))
-
-    go : (t : Bool) → Rounded s (fin t m e) (Voxels (pos 0))
-    go true = rounded-fitted s (fin true m e) true 0 (none true)
-    go false = rounded-fitted s (fin false m e) false 0 (none false)
+zero-rounded : (s : ℕ) (t : Bool) (m : ℕ) (e : ℤ) → m * up e ≡ 0 → Rounded s (fin t m e) (fitted t (sizeOf t 0 false))
+zero-rounded s t m e z =
+    let size : 2 * (m * up e) * 2 ^ s ≡ 0 = rw z (zero-mul (2 ^ s)) in
+    let none = zero-mul (down e) in
+    rounded-fitted s (fin t m e) t _ (nearest-size s t m e 0 false (omega arith) (omega (arith, down-pos e)) (sym (le-ltb (0 * down e) (2 * (m * up e) * 2 ^ s) (omega arith))))
 
 pub is-zero : (s : ℕ) (d : Float) → ne d d ≡ false → lt nought d ≡ false → lt d nought ≡ false → Rounded s d (Voxels (pos 0))
 unfolding lt

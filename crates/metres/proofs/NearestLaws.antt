@@ -25,35 +25,30 @@ record Near (a b p q k : ℕ) : Type 0 where
   high : a + 2 * (q * k) < b + 2 * (p * k) + k
 
 -- what 2n - 1 and 2n + 1 are, each times k
-less-one : (n : ℤ) (k : ℕ) → above ((pos 2 *ℤ n -ℤ pos 1) *ℤ pos k) + 2 * (below n * k) + k ≡ 2 * (above n * k) + below ((pos 2 *ℤ n -ℤ pos 1) *ℤ pos k)
-less-one n k =
-    let x = pos 2 *ℤ n -ℤ pos 1 in
-    let e : above x + (2 * below n + 1) ≡ 2 * above n + below x = rw (← times-above 2 n, ← times-below 2 n) (omega (arith, add-is (pos 2 *ℤ n) (negsuc 0))) in
-    rw (above-times x k, below-times x k) (omega (arith, simp (add-mul, mul-assoc, one-mul) at (ap (λ (z : ℕ). z * k) e)))
+and-times : (n z : ℤ) (k : ℕ) → above ((pos 2 *ℤ n +ℤ z) *ℤ pos k) + 2 * (below n * k) + below z * k ≡ 2 * (above n * k) + above z * k + below ((pos 2 *ℤ n +ℤ z) *ℤ pos k)
+and-times n z k =
+    let x = pos 2 *ℤ n +ℤ z in
+    let e : above x + (2 * below n + below z) ≡ 2 * above n + above z + below x = rw (← times-above 2 n, ← times-below 2 n) (omega (arith, add-is (pos 2 *ℤ n) z)) in
+    rw (above-times x k, below-times x k) (omega (arith, simp (add-mul, mul-assoc) at (ap (λ (y : ℕ). y * k) e)))
 
-more-one : (n : ℤ) (k : ℕ) → above ((pos 2 *ℤ n +ℤ pos 1) *ℤ pos k) + 2 * (below n * k) ≡ 2 * (above n * k) + k + below ((pos 2 *ℤ n +ℤ pos 1) *ℤ pos k)
-more-one n k =
-    let x = pos 2 *ℤ n +ℤ pos 1 in
-    let e : above x + 2 * below n ≡ 2 * above n + 1 + below x = rw (← times-above 2 n, ← times-below 2 n) (omega (arith, add-is (pos 2 *ℤ n) (pos 1))) in
-    rw (above-times x k, below-times x k) (omega (arith, simp (add-mul, mul-assoc, one-mul) at (ap (λ (z : ℕ). z * k) e)))
+module _ (s : ℕ) (t : Bool) (m : ℕ) (e n : ℤ) where
+  near-of : Nearest s (fin t m e) n → Near (above (doubled s t m e)) (below (doubled s t m e)) (above n) (below n) (down e)
+  unfolding Nearest
+  near-of h =
+      let k = down e in
+      let l = le→ ((pos 2 *ℤ n -ℤ pos 1) *ℤ pos k) (doubled s t m e) (h .0) in
+      let u = lt→ (doubled s t m e) ((pos 2 *ℤ n +ℤ pos 1) *ℤ pos k) (h .1) in
+      let z = zero-mul k in
+      record { low = omega (arith, and-times n (negsuc 0) k); high = omega (arith, and-times n (pos 1) k) }
 
-near-of : (s : ℕ) (t : Bool) (m : ℕ) (e n : ℤ) → Nearest s (fin t m e) n → Near (above (doubled s t m e)) (below (doubled s t m e)) (above n) (below n) (down e)
-unfolding Nearest
-near-of s t m e n h =
-    let k = down e in
-    let a = doubled s t m e in
-    let l = le→ ((pos 2 *ℤ n -ℤ pos 1) *ℤ pos k) a (h .0) in
-    let u = lt→ a ((pos 2 *ℤ n +ℤ pos 1) *ℤ pos k) (h .1) in
-    record { low = omega (arith, less-one n k); high = omega (arith, more-one n k) }
-
-of-near : (s : ℕ) (t : Bool) (m : ℕ) (e n : ℤ) → Near (above (doubled s t m e)) (below (doubled s t m e)) (above n) (below n) (down e) → Nearest s (fin t m e) n
-unfolding Nearest
-of-near s t m e n h =
-    let k = down e in
-    let a = doubled s t m e in (
-      →le ((pos 2 *ℤ n -ℤ pos 1) *ℤ pos k) a (omega (arith, less-one n k, h .low)),
-      →lt a ((pos 2 *ℤ n +ℤ pos 1) *ℤ pos k) (omega (arith, more-one n k, h .high)),
-    )
+  of-near : Near (above (doubled s t m e)) (below (doubled s t m e)) (above n) (below n) (down e) → Nearest s (fin t m e) n
+  unfolding Nearest
+  of-near h =
+      let k = down e in
+      let z = zero-mul k in (
+        →le ((pos 2 *ℤ n -ℤ pos 1) *ℤ pos k) (doubled s t m e) (omega (arith, and-times n (negsuc 0) k, h .low)),
+        →lt (doubled s t m e) ((pos 2 *ℤ n +ℤ pos 1) *ℤ pos k) (omega (arith, and-times n (pos 1) k, h .high)),
+      )
 
 -- ---- at most one
 under : (a b p q p' q' k : ℕ) → Near a b p q k → Near a b p' q' k → p + q' ≤ p' + q

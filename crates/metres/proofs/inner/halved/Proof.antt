@@ -72,9 +72,6 @@ whole-small c =
     omega (arith, whole-is c)
 
 -- ---- the needs
-shl-per-metre : tie.Need-shl-per-metre
-shl-per-metre c = search needs
-
 int-to-float-per-metre : tie.Need-int-to-float-per-metre
 int-to-float-per-metre c =
     let s = c .before .args .s in
@@ -86,9 +83,6 @@ truncating-f64-to-u64-requires c κs =
     let start = c .before in
     let d = den (start .args .a) in
     (above-minus-one (product start) (size start) d (value start), below-two-64 (product start) (size start) d (value start) (den-pos (start .args .a)) (below-64 start))
-
-int-to-float-back : tie.Need-int-to-float-back
-int-to-float-back c = is-whole (c .before .truncating-f64-to-u64 .result) (whole-small (c .before))
 
 returns : tie.Need-returns
 returns c =
@@ -108,8 +102,8 @@ pub halved-spec : {M : Type 1} → statement M
 halved-spec =
     tie.close
     (tie.spec
-    shl-per-metre
+    (λ c. search needs)
     int-to-float-per-metre
     truncating-f64-to-u64-requires
-    int-to-float-back
+    (λ c. is-whole (c .before .truncating-f64-to-u64 .result) (whole-small (c .before)))
     returns)
