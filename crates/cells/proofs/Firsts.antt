@@ -1,5 +1,5 @@
 -- The first number below n that has P: there is one at most, and one or none where P is decided. Assumes nothing.
-use mathlib.Core.Path.{_≡_}
+use mathlib.Core.Path.{_≡_, refl}
 use mathlib.Core.Bool.{Bool, true, false}
 use mathlib.Core.Logic.{_⊎_, inl, inr, ⊎-elim}
 use Prim.Native.Nat.{ℕ, zero, suc, _≤_, _<_}
@@ -30,6 +30,18 @@ first-or-none P decide (suc n) = go (first-or-none P decide n) (decide n)
     go (inl (i, f)) d = inl (i, first-more f)
     go (inr none) (inl p) = inl (n, record { below = le-refl (suc n); here = p; before = none })
     go (inr none) (inr q) = inr (λ j h. ⊎-elim (λ (e : j ≡ n). rw e q) (λ (l : j < n). none j l) (eq-or-lt-of-le (le-of-suc-le-suc h)))
+
+-- the first number that a test fails at, or it holds of all
+pub first-false : (P : ℕ → Bool) (n : ℕ) → ((i : ℕ) × First n (λ i. P i ≡ false) i) ⊎ ((i : ℕ) → i < n → P i ≡ true)
+first-false P n = ⊎-elim (λ f. inl f) (λ none. inr (λ i h. holds (P i) (none i h))) (first-or-none (λ i. P i ≡ false) (λ i. fails (P i)) n)
+  where
+    fails : (t : Bool) → (t ≡ false) ⊎ (t ≡ false → ⊥)
+    fails true = inr (λ e. clash refl e)
+    fails false = inl refl
+
+    holds : (t : Bool) → (t ≡ false → ⊥) → t ≡ true
+    holds true h = refl
+    holds false h = absurd (h refl)
 
 -- ---- a search that stops where a test fails
 

@@ -1,6 +1,6 @@
 -- Document 000's table 2: each entry is the unit step of document 01's rule, and adding a displacement to a path by the table, the last carry dropped, gives the
 -- displaced voxel's path. An axis is a number a below 3: x, y, z; its bit in a label is 2 ^ a. Assumes nothing.
-use mathlib.Core.Path.{_≡_, refl, _∙_}
+use mathlib.Core.Path.{_≡_, refl}
 use mathlib.Core.Bool.{Bool, true, false}
 use mathlib.Core.List.{[]}
 use Prim.Native.Nat.{ℕ, suc, _+_, _*_, _/_, _%_, _^_, _<_}

@@ -4,7 +4,7 @@
 --     negated, neg-neg     -d, for a d below zero
 --     not-a-number, is-zero     a NaN is bad, and what is neither above nor below zero, and no NaN, gives 0
 -- Assumes nothing.
-use mathlib.Core.Path.{_≡_, refl, sym, ap, _∙_, subst}
+use mathlib.Core.Path.{_≡_, refl, sym, _∙_, subst}
 use Prim.Native.Nat.{ℕ, _+_, _*_, _^_, _<_}
 use native.Mathlib.Nat.{zero-mul}
 use native.Mathlib.Omega.{arith}
@@ -18,7 +18,7 @@ use lib.Ieee.Compare.{differs-from-itself, nan-differs}
 use lib.Ieee.Positive.{positive, num, den, first-pos}
 use Rattle.metres.specs.declared.inner.Halves.{Halves}
 use Rattle.metres.specs.declared.inner.Coordinate.the-variants.{Voxels, Bad}
-use Rattle.metres.specs.Metres.{signed, Nearest}
+use Rattle.metres.specs.Metres.{Nearest}
 use Rattle.metres.specs.Inner.{Rounded, Measured, sizeOf, fitted, withSign}
 use Rattle.metres.proofs.NearestLaws.{nearest-size}
 use Rattle.metres.proofs.Rounding.{rounded-fitted, far-is-bad}

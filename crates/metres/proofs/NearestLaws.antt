@@ -14,7 +14,6 @@ use lib.Dec.{T, ltb, ltb→lt, nltb→le}
 use lib.Ieee.{Float, nan, inf, fin, up, down}
 use lib.Ieee.Fits.{down-pos}
 use lib.Pow.{pow-pos}
-use mathlib.Core.Logic.{_⊎_, inl, inr}
 use Rattle.metres.specs.Metres.{signed, doubled, Nearest}
 use Rattle.metres.specs.Inner.{sizeOf}
 use Rattle.cells.proofs.Integers.{above, below, le→, →le, lt→, →lt, same, above-neg, below-neg, add-is, above-times, below-times, times-above, times-below}
@@ -129,21 +128,14 @@ nearest-exists s t m e =
     nearest-size s t m e (halvesOf s m e) (overOf s m e) (omega arith) (omega arith) refl
 
 -- ---- 2^32 metres or more: no 32-bit number is near
-far-near : (a b p q k : ℕ) → 0 < k → p < 2 ^ 31 → q ≤ 2 ^ 31 → ((2 ^ 33 * k ≤ a) × (b ≡ 0)) ⊎ ((2 ^ 33 * k ≤ b) × (a ≡ 0)) → Near a b p q k → ⊥
-far-near a b p q k K P Q f h =
-    let x : p * k ≤ 2 ^ 31 * k = mul-le-mul-right k (omega arith) in
-    let y : q * k ≤ 2 ^ 31 * k = mul-le-mul-right k Q in
-    elim f [ inl g ↦ omega (arith, h .high) | inr g ↦ omega (arith, h .low) ]
-
 pub nearest-far : (s : ℕ) (t : Bool) (m : ℕ) (e n : ℤ) → 2 ^ 32 * down e ≤ m * up e → above n < 2 ^ 31 → below n ≤ 2 ^ 31 → Nearest s (fin t m e) n → ⊥
 nearest-far s t m e n h P Q near =
-    far-near (above (doubled s t m e)) (below (doubled s t m e)) (above n) (below n) (down e) (down-pos e) P Q (far t) (near-of s t m e n near)
+    let x : above n * down e ≤ 2 ^ 31 * down e = mul-le-mul-right (down e) (omega arith) in
+    let y : below n * down e ≤ 2 ^ 31 * down e = mul-le-mul-right (down e) Q in
+    let big : 2 * (m * up e) * 1 ≤ 2 * (m * up e) * 2 ^ s = mul-le-mul-left (2 * (m * up e)) (pow-pos s) in
+    go t (near-of s t m e n near) x y (omega arith)
   where
-    big : 2 ^ 33 * down e ≤ 2 * (m * up e) * 2 ^ s
-    big =
-        let x : 2 * (m * up e) * 1 ≤ 2 * (m * up e) * 2 ^ s = mul-le-mul-left (2 * (m * up e)) (pow-pos s) in
-        omega arith
-
-    far : (t : Bool) → ((2 ^ 33 * down e ≤ above (doubled s t m e)) × (below (doubled s t m e) ≡ 0)) ⊎ ((2 ^ 33 * down e ≤ below (doubled s t m e)) × (above (doubled s t m e) ≡ 0))
-    far false = inl (big, refl)
-    far true = inr (rw (below-neg (2 * (m * up e) * 2 ^ s)) big, above-neg (2 * (m * up e) * 2 ^ s))
+    go : (t : Bool) → Near (above (doubled s t m e)) (below (doubled s t m e)) (above n) (below n) (down e) → above n * down e ≤ 2 ^ 31 * down e → below n * down e ≤ 2 ^ 31 * down e
+        → 2 ^ 33 * down e ≤ 2 * (m * up e) * 2 ^ s → ⊥
+    go false near x y big = omega (arith, near .high, down-pos e)
+    go true near x y big = let A = 2 * (m * up e) * 2 ^ s in omega (arith, near .low, above-neg A, below-neg A, down-pos e)

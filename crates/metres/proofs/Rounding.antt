@@ -3,13 +3,12 @@
 --     rounded-exists     and an outcome for every float: `rounded`, which computes
 -- Assumes nothing.
 use mathlib.Core.Path.{_≡_, refl, ap, subst}
-use Prim.Native.Nat.{ℕ, _+_, _*_, _^_, _≤_, _<_}
+use Prim.Native.Nat.{ℕ, _*_, _^_, _≤_, _<_}
 use native.Mathlib.Omega.{arith}
 use mathlib.Core.Bool.{Bool, true, false, not, cond}
 use lib.IntN.{ℤ, pos, negsuc, negℤ}
 use lib.Dec.{T, leb→le, ltb→lt, nltb→le, nleb→lt}
 use lib.Ieee.{Float, nan, inf, fin, up, down}
-use mathlib.Core.Logic.{_⊎_, inl, inr}
 use Rattle.metres.specs.declared.inner.Coordinate.{Coordinate}
 use Rattle.metres.specs.declared.inner.Coordinate.the-variants.{Voxels, Bad}
 use Rattle.metres.specs.Metres.{signed, Nearest, In32, Whole}
@@ -19,22 +18,8 @@ use Rattle.metres.proofs.NearestLaws.{nearest-unique, nearest-exists, n
 
 -- ---- the range
 pub in32-bounds : (n : ℤ) → In32 n → (above n < 2 ^ 31) × (below n ≤ 2 ^ 31)
-in32-bounds n h =
-    let l = le→ (negℤ (pos (2 ^ 31))) n (h .0) in
-    let u = lt→ n (pos (2 ^ 31)) (h .1) in
-    (part (above n) (below n) (half n) u, other (above n) (below n) (half n) l)
-  where
-    half : (z : ℤ) → (above z ≡ 0) ⊎ (below z ≡ 0)
-    half (pos a) = inr refl
-    half (negsuc a) = inl refl
-
-    part : (p q : ℕ) → (p ≡ 0) ⊎ (q ≡ 0) → p + 0 < 2 ^ 31 + q → p < 2 ^ 31
-    part p q (inl z) u = omega arith
-    part p q (inr z) u = omega arith
-
-    other : (p q : ℕ) → (p ≡ 0) ⊎ (q ≡ 0) → 0 + q ≤ p + 2 ^ 31 → q ≤ 2 ^ 31
-    other p q (inl z) l = omega arith
-    other p q (inr z) l = omega arith
+in32-bounds (pos a) h = let u = lt→ (pos a) (pos (2 ^ 31)) (h .1) in (omega arith, omega arith)
+in32-bounds (negsuc a) h = let l = le→ (negℤ (pos (2 ^ 31))) (negsuc a) (h .0) in (omega arith, omega arith)
 
 in32-yes : (t : Bool) (k : ℕ) → T (inRange t k) → In32 (signed t k)
 in32-yes false k h = let g = ltb→lt k (2 ^ 31) h in (record { le = tt }, →lt (pos k) (pos (2 ^ 31)) (omega arith))

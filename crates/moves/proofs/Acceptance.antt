@@ -1,6 +1,6 @@
 -- A leaf's test against its voxels: where it holds each voxel of the leaf, displaced, stays in the root, and where it fails the leaf's first voxel or its last
 -- strays. So no leaf strays just where each black voxel stays. Assumes nothing.
-use mathlib.Core.Path.{_≡_, refl, ap, _∙_}
+use mathlib.Core.Path.{_≡_, refl, ap}
 use mathlib.Core.Logic.{_⊎_, inl, inr, ⊎-elim, _↔_}
 use mathlib.Core.Bool.{Bool, true, false, _&&_}
 use mathlib.Core.List.{List}
@@ -13,17 +13,17 @@ use lib.ListN.{length, getD}
 use borrow.Author.Tests.{leb-true, leb-false}
 use Rattle.cells.specs.Answer.{First}
 use Rattle.cells.specs.Cell.{level, proper, index, side, start, span, holds}
-use Rattle.cells.specs.Place.{axes, EachAxis, allAxes, along, number, corner, Displaced, Came}
+use Rattle.cells.specs.Place.{EachAxis, along, number, corner, Displaced, Came}
 use Rattle.cells.specs.declared.Answer.{Answer}
-use Rattle.cells.proofs.Bools.{both-true, clash}
-use Rattle.cells.proofs.Firsts.{first-or-none}
+use Rattle.cells.proofs.Bools.{both-true}
+use Rattle.cells.proofs.Firsts.{first-false}
 use Rattle.cells.proofs.Integers.{above, below}
 use Rattle.cells.proofs.Cells.{span-pos}
 use Rattle.cells.proofs.CornerLaws.{side-pos, corner-start, corner-end}
 use Rattle.cells.proofs.Places.{each-true, some-false, along-lt, along-axes, number-lt}
 use Rattle.cells.proofs.Displacements.{displaced-parts}
 use Rattle.cells.proofs.Views.{cube}
-use Rattle.records.specs.Record.{black, Ordered}
+use Rattle.records.specs.Record.{Ordered}
 use Rattle.records.specs.Carried.{Strays, Straying}
 use Rattle.records.proofs.Lists.{held}
 use Rattle.records.proofs.Leaves.{leaf-of}
@@ -151,28 +151,14 @@ module _ (D : ℕ) (d : ℕ → ℤ) (p : ℕ → Parted) (split : EachAxis (λ 
 
 -- ---- acceptance: no leaf strays exactly when each black voxel, displaced, stays
 
-module _ (D : ℕ) (d : ℕ → ℤ) (l : List ℕ) (o : Ordered D 0 l) where
-  abbrev p : ℕ → Parted
-  p a = splitOf (d a)
+pub accepted-exactly : (D : ℕ) (d : ℕ → ℤ) (l : List ℕ) → Ordered D 0 l → ((a : Answer) → Straying D (Came D d) l a → ⊥) ↔ Accepted D (Came D d) l
+accepted-exactly D d l o = (to, accepted-passes D (Came D d) l)
+  where
+    p : ℕ → Parted
+    p a = splitOf (d a)
 
-  split : EachAxis (λ a. Splits (d a) (p a))
-  split a h = splits-of (d a)
+    split : EachAxis (λ a. Splits (d a) (p a))
+    split a h = splits-of (d a)
 
-  -- a leaf is kept or not
-  kept-or-not : (t : Bool) → (t ≡ false) ⊎ (t ≡ false → ⊥)
-  kept-or-not true = inr (λ e. clash refl e)
-  kept-or-not false = inl refl
-
-  kept : (t : Bool) → (t ≡ false → ⊥) → t ≡ true
-  kept true h = refl
-  kept false h = absurd (h refl)
-
-  pub accepted-exactly : ((a : Answer) → Straying D (Came D d) l a → ⊥) ↔ Accepted D (Came D d) l
-  accepted-exactly = (to, accepted-passes D (Came D d) l)
-    where
-      to : ((a : Answer) → Straying D (Came D d) l a → ⊥) → Accepted D (Came D d) l
-      to none =
-          ⊎-elim
-          (λ (i, f). absurd (none _ (i, first-strays D d p split l o f, refl)))
-          (λ all. all-stay D d p split l o (λ i h. kept _ (all i h)))
-          (first-or-none (λ i. leafKeeps D p (getD l i 0) ≡ false) (λ i. kept-or-not (leafKeeps D p (getD l i 0))) (length l))
+    to : ((a : Answer) → Straying D (Came D d) l a → ⊥) → Accepted D (Came D d) l
+    to none = ⊎-elim (λ (i, f). absurd (none _ (i, first-strays D d p split l o f, refl))) (all-stay D d p split l o) (first-false (λ i. leafKeeps D p (getD l i 0)) (length l))

@@ -1,6 +1,6 @@
 -- The bits of labels. An axis is a number a below 3; its bit in a label is 2 ^ a. Assumes nothing.
-use mathlib.Core.Path.{_≡_, refl, sym, ap, _∙_}
-use Prim.Native.Nat.{ℕ, zero, suc, _+_, _*_, _/_, _%_, _^_, _<_, max}
+use mathlib.Core.Path.{_≡_, sym, ap, _∙_}
+use Prim.Native.Nat.{ℕ, _+_, _*_, _/_, _%_, _^_, _<_, max}
 use native.Mathlib.Nat.{zero-div}
 use native.Mathlib.Omega.{arith}
 use Rattle.cells.proofs.Places.{label-axes}

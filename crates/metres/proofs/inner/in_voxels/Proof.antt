@@ -1,5 +1,5 @@
 -- `metres::inner::in_voxels` meets its contract: metres go by the three coordinates. Assumes nothing.
-use mathlib.Core.Path.{_≡_, refl, sym, subst}
+use mathlib.Core.Path.{refl, sym, subst}
 use mathlib.Core.Logic.{inl}
 use borrow.Author.Needs.{needs}
 use Rattle.metres.specs.Taken.{TakenOf}

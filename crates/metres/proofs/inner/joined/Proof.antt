@@ -1,13 +1,8 @@
 -- `metres::inner::joined` meets its contract: each arm's variants pick the clause of `together`. A number of 32 bits is kept as its bits, and read back. Assumes nothing.
-use mathlib.Core.Path.{_≡_}
-use lib.IntN.{ℤ}
 use mir.Syntax.{w32}
 use mir.Facts.{toZ-ofZ}
 use borrow.Author.Needs.{needs}
-use Rattle.metres.specs.declared.inner.Coordinate.{Coordinate}
-use Rattle.metres.specs.declared.inner.Coordinate.the-variants.{Voxels}
 use Rattle.metres.specs.declared.inner.Taken.the-variants as TakenV
-use Rattle.metres.specs.Inner.{together}
 use Rattle.metres.proofs.inner.joined.Statement.{statement}
 use Rattle.metres.proofs.inner.joined.Tie as tie
 

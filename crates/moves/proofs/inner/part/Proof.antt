@@ -1,6 +1,6 @@
 -- `moves::inner::part` meets its contract. The machine reads a signed number back from its bits, `toZ w (ofZ w d)`, which is d: each need is the
 -- plain fact about d, carried over by that equation. The difference is taken at 64 bits, so that nothing goes by cases on the sum. Assumes nothing.
-use mathlib.Core.Path.{_≡_, refl, ap, _∙_}
+use mathlib.Core.Path.{_≡_, refl}
 use mathlib.Core.Bool.{true, false}
 use Prim.Native.Nat.{ℕ, suc}
 use native.Mathlib.Nat.{zero-add}

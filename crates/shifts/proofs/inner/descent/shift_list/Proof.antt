@@ -1,9 +1,6 @@
 -- `shifts::inner::descent::shift_list` meets its contract: the descent from the root, and the end. Assumes nothing.
 use native.Mathlib.Nat.{zero-add}
-use native.Mathlib.Omega.{arith}
 use borrow.Author.Needs.{needs}
-use Rattle.cells.proofs.Words.{pow8-small}
-use Rattle.records.proofs.Lists.{few-ordered}
 use Rattle.emit.proofs.Runs.{fed-to, fed-all}
 use Rattle.shifts.proofs.Targets.{root-aimed}
 use Rattle.shifts.proofs.inner.descent.shift_list.Statement.{statement}
