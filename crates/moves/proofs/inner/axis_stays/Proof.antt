@@ -22,8 +22,5 @@ axis-stays-spec =
     (tie.spec
     (λ c κs. search needs)
     sub-pow2
-    (λ c κs. search needs)
-    (λ c κs. search needs)
-    (λ c κs. search needs)
-    (λ c κs. search needs)
+    (λ c κs. search needs) (λ c κs. search needs) (λ c κs. search needs) (λ c κs. search needs)
     returns)

@@ -63,9 +63,7 @@ pub copy-leaves-spec : {M : Type 1} → statement M
 copy-leaves-spec =
     tie.close
     (tie.spec
-    Inv-loop
-    μ-loop
-    (λ c κs. search needs)
+    Inv-loop μ-loop (λ c κs. search needs)
     (λ c. let p = start c .pre in copied-none (p .0 .held) (p .1) (at c) (p .0 .root) (p .0 .ready))
     (λ c. search needs)
     (λ c. omega (arith, c .before .loop-test .taken, begun (c .before) .pre .0 .held .part .within))
@@ -75,8 +73,7 @@ copy-leaves-spec =
     (λ c κs. let x = comes (c .before .before) in (x .piece .deep, x .is-proper))
     add-push
     (λ c κs. rw (c .before .before .first .ensures, c .before .width .ensures) (comes (c .before .before .before .before) .piece))
-    (λ c. search needs)
-    (λ c. search needs)
+    (λ c. search needs) (λ c. search needs)
     loop-again
     (λ c. c .before .loop .inv .size)
     returns)

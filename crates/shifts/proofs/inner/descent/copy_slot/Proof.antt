@@ -54,10 +54,7 @@ pub copy-slot-spec : {M : Type 1} → statement M
 copy-slot-spec =
     tie.close
     (tie.spec
-    (λ c κs. search needs)
-    (λ c κs. search needs)
-    (λ c. search needs)
-    (λ c. search needs)
+    (λ c κs. search needs) (λ c κs. search needs) (λ c. search needs) (λ c. search needs)
     (λ c. let p = piece (c .before .before) in record { fits = omega (arith, p .root, pow8-small _ (p .deep)) })
     (λ c κs. piece (c .before .before .before))
     (λ c. search needs)

@@ -15,6 +15,5 @@ shift-list-spec =
     (tie.spec
     (λ c κs. search needs)
     (λ c κs. root-aimed (c .before .before .before .before .pre) (c .before .axes .ensures))
-    (λ c κs. search needs)
-    (λ c. search needs)
+    (λ c κs. search needs) (λ c. search needs)
     returns)

@@ -59,17 +59,12 @@ pub colour-spec : {M : Type 1} → statement M
 colour-spec =
     tie.close
     (tie.spec
-    Inv-loop
-    μ-loop
-    (λ c. search needs)
+    Inv-loop μ-loop (λ c. search needs)
     tint-slot-requires
     loop-holds
-    (λ c. search needs)
-    (λ c. search needs)
-    (λ c. search needs)
+    (λ c. search needs) (λ c. search needs) (λ c. search needs)
     agrees-requires
     (λ c b e. absurd (mixed-none b e))
-    (λ c. search needs)
-    (λ c. search needs)
+    (λ c. search needs) (λ c. search needs)
     loop-again
     (λ c b e p h u. c .before .loop .inv p (omega (arith, c .loop-test .left)) u))
