@@ -154,22 +154,6 @@ module _ (t : ℕ) where
       let place = u .inv .place ∙ ap (λ (y : ℕ). a .c .from + u .m * y) (p .before .before .pow8 .ensures) in
       (omega (arith, entry t p .pre .0), child-aimed (divides t p) (a .w / 2 ^ (3 * a .c .k) % 8) (u .m) (u .v) (ap (λ (y : ℕ). a .w / y % 8) (pow8-bits (a .c .k))) (p .loop-test .taken) place (c .before .pick .ensures) (u .inv .fed .ready))
 
-  add-v : shift-children-lts.Need-add-v (children-calls t) (shift-children-at t) shift-children.Post shift-children-Inv-loop shift-children-μ-loop
-  add-v c =
-      let p = c .before .before .before .before .before in
-      record { fits = omega (arith, within-root t p, pow8-small (entry t p .args .depth) (divides t p .source .deep)) }
-
-  loop-again : shift-children-lts.Need-loop-again (children-calls t) (shift-children-at t) shift-children.Post shift-children-Inv-loop shift-children-μ-loop
-  loop-again c =
-      let p = c .before .before .before .before .before in
-      let q = c .before .before .shift-cell in
-      children-more (p .before .loop .inv) (p .loop-test .taken) (p .before .before .pow8 .ensures) (q .kept .1 .1 .1 .1 .1 .1 .0) (q .ensures)
-
-  returns : shift-children-lts.Need-returns (children-calls t) (shift-children-at t) shift-children.Post shift-children-Inv-loop shift-children-μ-loop
-  returns c =
-      let k = c .before .before .before .before .before .args .c .k in
-      children-all (c .before .loop .inv) (8 ^ suc k) (c .loop-test .left) (omega (arith, pow8-suc k, c .before .before .pow8 .ensures))
-
 pub +shift-cell+shift-children-spec : {M : Type 1} → statement M
 +shift-cell+shift-children-spec =
     close μ-shift-cell μ-shift-children
@@ -203,8 +187,13 @@ pub +shift-cell+shift-children-spec : {M : Type 1} → statement M
     (λ c. children-none (c .before .before .before .pre .1 .ready))
     (λ c κs. (omega arith, omega arith))
     (shift-cell-requires t)
-    (add-v t)
+    (λ c. let p = c .before .before .before .before .before in record { fits = omega (arith, within-root t p, pow8-small (entry t p .args .depth) (divides t p .source .deep)) })
     (λ c. search needs) (λ c. search needs)
-    (loop-again t)
+    (λ c.
+    let p = c .before .before .before .before .before in
+    let q = c .before .before .shift-cell in
+    children-more (p .before .loop .inv) (p .loop-test .taken) (p .before .before .pow8 .ensures) (q .kept .1 .1 .1 .1 .1 .1 .0) (q .ensures))
     (λ c. c .before .loop .inv .size)
-    (returns t))
+    (λ c.
+    let k = c .before .before .before .before .before .args .c .k in
+    children-all (c .before .loop .inv) (8 ^ suc k) (c .loop-test .left) (omega (arith, pow8-suc k, c .before .before .pow8 .ensures))))

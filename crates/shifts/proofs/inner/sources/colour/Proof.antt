@@ -1,12 +1,11 @@
 -- `shifts::inner::sources::colour` meets its contract. The loop's invariant: the needed slots before q have the tint r. Assumes nothing.
-use mathlib.Core.Path.{_≡_, subst}
+use mathlib.Core.Path.{_≡_}
 use mathlib.Core.Bool.{Bool, true, false}
-use mathlib.Core.Logic.{⊎-elim}
-use Prim.Native.Nat.{ℕ, _-_, _<_, _≤_}
+use Prim.Native.Nat.{ℕ, _-_, _<_}
 use native.Mathlib.Omega.{arith}
 use borrow.Author.Needs.{needs}
+use borrow.Author.Count.{below-none, below-more}
 use borrow.Author.Tests.{not-false}
-use Rattle.cells.proofs.Power.{le-or-lt}
 use Rattle.shifts.specs.LabelSums.{Uses}
 use Rattle.records.specs.Slot.{SlotTint, slotAt, tintOf}
 use Rattle.records.specs.declared.inner.slots.Tint.the-variants.{Mixed}
@@ -31,29 +30,11 @@ tint-slot-requires c κs =
     let x = s .pre .1 .1 0 (omega arith) (uses-none (s .args .f)) in
     (x .source, x .part .within)
 
-loop-holds : tie.Need-loop-holds Inv-loop μ-loop
-loop-holds c = λ p h u.
-    let a = c .before .before .before .args in
-    let e : 0 ≡ p = omega arith in
-    subst (λ (i : ℕ). SlotTint (a .depth) (a .l .now) (a .w) (slotAt (a .t5) i) (c .tint-slot .result)) e (c .tint-slot .ensures)
-
 agrees-requires : tie.Need-agrees-requires Inv-loop μ-loop
 agrees-requires c κs =
     let s = c .before .before .before .before .before .before in
     let q = c .before .loop-test .taken in
     (s .pre .0, q, λ u. (s .pre .1 .0, s .pre .1 .1 (c .before .before .loop .q) q u))
-
-loop-again : tie.Need-loop-again Inv-loop μ-loop
-loop-again c = λ p h u.
-    let head = c .before .before .before .before in
-    let a = head .before .before .before .before .args in
-    let q = head .loop .q in
-    ⊎-elim
-    (λ (g : q ≤ p).
-    let e : q ≡ p = omega arith in
-    subst (λ (i : ℕ). Uses (a .f) i → SlotTint (a .depth) (a .l .now) (a .w) (slotAt (a .t5) i) (head .before .tint-slot .result)) e (c .before .agrees .ensures (not-false (c .before .agrees .result) (c .if1 .left))) u)
-    (λ (g : p < q). head .loop .inv p g u)
-    (le-or-lt q p)
 
 pub colour-spec : {M : Type 1} → statement M
 colour-spec =
@@ -61,10 +42,10 @@ colour-spec =
     (tie.spec
     Inv-loop μ-loop (λ c. search needs)
     tint-slot-requires
-    loop-holds
+    (λ c. below-more _ 0 (below-none _) (λ u. c .tint-slot .ensures))
     (λ c. search needs) (λ c. search needs) (λ c. search needs)
     agrees-requires
     (λ c b e. absurd (mixed-none b e))
     (λ c. search needs) (λ c. search needs)
-    loop-again
+    (λ c. below-more _ _ (c .before .before .before .before .loop .inv) (c .before .agrees .ensures (not-false _ (c .if1 .left))))
     (λ c b e p h u. c .before .loop .inv p (omega (arith, c .loop-test .left)) u))

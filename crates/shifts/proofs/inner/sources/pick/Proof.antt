@@ -21,30 +21,20 @@ Inv-loop h m p r₀ q₀ r q = Prefix (Picked p h m) (record { lo = 0; hi = 0 })
 abbrev μ-loop : tie.MeasureT-loop
 μ-loop h m p r₀ q₀ r q = 8 - q
 
-loop-holds : tie.Need-loop-holds Inv-loop μ-loop
-loop-holds c = prefix-none (Picked (c .args .t1) (c .args .h) (c .args .m)) (record { lo = 0; hi = 0 }) 8 _ refl
-
 loop-again : tie.Need-loop-again Inv-loop μ-loop
 loop-again c =
-    let a = c .before .before .before .before .before .before .args in
-    let u = c .before .before .before .before .before .loop in
-    prefix-more (Picked (a .t1) (a .h) (a .m)) (record { lo = 0; hi = 0 }) 8 (u .r) (u .q) (partAt (a .t1) (c .before .before .before .carry-label .result) (c .before .before .sum-label .result))
-    (omega (arith, c .before .before .before .before .loop-test .taken))
-    (rw (c .before .before .before .carry-label .ensures .0, c .before .before .sum-label .ensures .0))
-    (u .inv)
-
-returns : tie.Need-returns Inv-loop μ-loop
-returns c =
-    λ q h. c .before .loop .inv .each q (omega (arith, c .loop-test .left))
+    let picked = c .before .before in
+    let head = picked .before .before .before in
+    prefix-more _ _ 8 (head .loop .r) (head .loop .q) _ (omega (arith, picked .before .before .loop-test .taken)) (rw (picked .before .carry-label .ensures .0, picked .sum-label .ensures .0)) (head .loop .inv)
 
 pub pick-spec : {M : Type 1} → statement M
 pick-spec =
     tie.close
     (tie.spec
     Inv-loop μ-loop
-    loop-holds
+    (λ c. prefix-none _ _ 8 _ refl)
     (λ c. search needs) (λ c κs. search needs) (λ c. search needs) (λ c. search needs) (λ c κs. search needs) (λ c. search needs)
     (λ c. search needs) (λ c. search needs) (λ c. search needs) (λ c. search needs) (λ c. search needs) (λ c. search needs)
     (λ c. search needs) (λ c. search needs)
     loop-again
-    returns)
+    (λ c q h. c .before .loop .inv .each q (omega (arith, c .loop-test .left))))

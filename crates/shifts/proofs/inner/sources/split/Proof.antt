@@ -21,17 +21,6 @@ Inv-loop depth l k f t r₀ q₀ r q = Prefix (Row depth l k f t) [] 8 r q
 abbrev μ-loop : tie.MeasureT-loop
 μ-loop depth l k f t r₀ q₀ r q = 8 - q
 
-split-needed-requires : tie.Need-split-needed-requires Inv-loop μ-loop
-split-needed-requires c κs =
-    let s = c .before .before .before .before in
-    let q = c .before .loop-test .taken in
-    (s .pre .0, q, s .pre .1 (c .before .before .loop .q) q)
-
-loop-again : tie.Need-loop-again Inv-loop μ-loop
-loop-again c =
-    let u = c .before .before .before .loop in
-    prefix-more _ [] 8 (u .r) (u .q) (c .split-needed .result) (c .before .before .loop-test .taken) (c .split-needed .ensures) (u .inv)
-
 pub split-spec : {M : Type 1} → statement M
 split-spec =
     tie.close
@@ -39,7 +28,7 @@ split-spec =
     Inv-loop μ-loop
     (λ c. prefix-none _ [] 8 _ refl)
     (λ c. search needs) (λ c. search needs) (λ c. search needs)
-    split-needed-requires
+    (λ c κs. let s = c .before .before .before .before in let q = c .before .loop-test .taken in (s .pre .0, q, s .pre .1 (c .before .before .loop .q) q))
     (λ c. search needs) (λ c. search needs) (λ c. search needs) (λ c. search needs)
-    loop-again
+    (λ c. let u = c .before .before .before .loop in prefix-more _ [] 8 (u .r) (u .q) _ (c .before .before .loop-test .taken) (c .split-needed .ensures) (u .inv))
     (λ c S x q m h u g. c .before .loop .inv .each q (omega (arith, c .loop-test .left)) u (S q) (x q h u) m g))
