@@ -42,9 +42,6 @@ returns c =
     let h : k ≤ 2 ^ 31 = omega arith in
     ap Voxels (toZ-ofZ (fits-32 k h) ∙ wide-is k h) ∙ sym (rw (c .before .if1 .taken, le-leb k (2 ^ 31) h))
 
-returns-2 : tie.Need-returns-2
-returns-2 c = let h : 2 ^ 31 < c .before .before .args .k = omega arith in sym (rw (c .before .if1 .taken, lt-leb _ _ h))
-
 pub fit-spec : {M : Type 1} → statement M
 fit-spec =
     tie.close
@@ -53,7 +50,7 @@ fit-spec =
     (λ c. fits-64 (c .before .before .args .k) (omega arith))
     (λ c. fits-32 (c .before .before .args .k) (omega arith))
     returns
-    returns-2
+    (λ c. let h : 2 ^ 31 < c .before .before .args .k = omega arith in sym (rw (c .before .if1 .taken, lt-leb _ _ h)))
     (λ c. search needs)
     (λ c. ap Voxels (toZ-pos w32 (c .if3 .taken)) ∙ sym (rw (c .before .if1 .left, lt-ltb _ _ (c .if3 .taken))))
     (λ c. sym (rw (c .before .if1 .left, le-ltb _ _ (c .if3 .left)))))

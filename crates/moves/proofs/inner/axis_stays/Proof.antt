@@ -7,20 +7,12 @@ use borrow.Author.Needs.{needs}
 use Rattle.moves.proofs.inner.axis_stays.Statement.{statement}
 use Rattle.moves.proofs.inner.axis_stays.Tie as tie
 
-sub-pow2 : tie.Need-sub-pow2
-sub-pow2 c = let a = c .before .args in omega (arith, c .level-of .ensures, level-le (a .depth) (a .code))
-
-returns : tie.Need-returns
-unfolding keepsAlong side
-returns c =
-    let p = c .before .before in
-    rw (c .stays .ensures, p .pow22 .ensures, c .before .coordinate .ensures, p .before .pow2 .ensures, p .before .before .level-of .ensures)
-
 pub axis-stays-spec : {M : Type 1} → statement M
+unfolding keepsAlong side
 axis-stays-spec =
     tie.close
     (tie.spec
     (λ c κs. search needs)
-    sub-pow2
+    (λ c. let a = c .before .args in omega (arith, c .level-of .ensures, level-le (a .depth) (a .code)))
     (λ c κs. search needs) (λ c κs. search needs) (λ c κs. search needs) (λ c κs. search needs)
-    returns)
+    (λ c. let p = c .before .before in rw (c .stays .ensures, p .pow22 .ensures, c .before .coordinate .ensures, p .before .pow2 .ensures, p .before .before .level-of .ensures)))

@@ -18,26 +18,6 @@ Inv-loop depth list x y z i₀ i = (i ≤ length list) × ((j : ℕ) → j < i �
 abbrev μ-loop : tie.MeasureT-loop
 μ-loop depth list x y z i₀ i = length list - i
 
-leaf-stays-requires : tie.Need-leaf-stays-requires Inv-loop μ-loop
-leaf-stays-requires c κs =
-    let s = c .before .before .before .before in
-    (s .pre .0, proper-at (s .args .depth) (s .args .list .now) (s .pre .1) (c .before .before .loop .i) (omega arith))
-
-returns : tie.Need-returns Inv-loop μ-loop
-returns c =
-    let u = c .before .before .before .before .loop in
-    record { within = u .inv .0; before = u .inv .1; here = λ _. sym (c .before .leaf-stays .ensures) ∙ not-true _ (c .if1 .taken) }
-
-loop-again : tie.Need-loop-again Inv-loop μ-loop
-loop-again c =
-    let u = c .before .before .before .before .loop in
-    (omega arith, below-more _ _ (u .inv .1) (sym (c .before .leaf-stays .ensures) ∙ not-false _ (c .if1 .left)))
-
-returns-2 : tie.Need-returns-2 Inv-loop μ-loop
-returns-2 c =
-    let u = c .before .loop in
-    record { within = u .inv .0; before = u .inv .1; here = λ h. absurd (omega arith) }
-
 pub first-stray-spec : {M : Type 1} → statement M
 first-stray-spec =
     tie.close
@@ -45,8 +25,14 @@ first-stray-spec =
     Inv-loop μ-loop
     (λ c. (omega arith, λ j h. absurd (omega arith)))
     (λ c. omega arith) (λ c. omega arith)
-    leaf-stays-requires
-    returns
+    (λ c κs.
+    let s = c .before .before .before .before in
+    (s .pre .0, proper-at (s .args .depth) (s .args .list .now) (s .pre .1) (c .before .before .loop .i) (omega arith)))
+    (λ c.
+    let u = c .before .before .before .before .loop in
+    record { within = u .inv .0; before = u .inv .1; here = λ _. sym (c .before .leaf-stays .ensures) ∙ not-true _ (c .if1 .taken) })
     (λ c. omega arith) (λ c. omega arith)
-    loop-again
-    returns-2)
+    (λ c.
+    let u = c .before .before .before .before .loop in
+    (omega arith, below-more _ _ (u .inv .1) (sym (c .before .leaf-stays .ensures) ∙ not-false _ (c .if1 .left))))
+    (λ c. let u = c .before .loop in record { within = u .inv .0; before = u .inv .1; here = λ h. absurd (omega arith) }))

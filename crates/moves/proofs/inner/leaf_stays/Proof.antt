@@ -6,30 +6,19 @@ use borrow.Author.Needs.{needs}
 use Rattle.moves.proofs.inner.leaf_stays.Statement.{statement}
 use Rattle.moves.proofs.inner.leaf_stays.Tie as tie
 
-returns : tie.Need-returns
-unfolding leafKeeps
-returns c = sym (rw (sym (c .before .axis-stays .ensures) ∙ not-true _ (c .if1 .taken)))
-
-returns-2 : tie.Need-returns-2
-unfolding leafKeeps
-returns-2 c =
-    let p = c .before .before in
-    sym (rw (sym (p .before .axis-stays .ensures) ∙ not-false _ (p .if1 .left), sym (c .before .axis-stays2 .ensures) ∙ not-true _ (c .if2 .taken)))
-
-returns-3 : tie.Need-returns-3
-unfolding leafKeeps
-returns-3 c =
-    let q = c .before .before in
-    let p = q .before in
-    c .axis-stays3 .ensures ∙ sym (rw (sym (p .before .axis-stays .ensures) ∙ not-false _ (p .if1 .left), sym (q .axis-stays2 .ensures) ∙ not-false _ (c .before .if2 .left)))
-
 pub leaf-stays-spec : {M : Type 1} → statement M
+unfolding leafKeeps
 leaf-stays-spec =
     tie.close
     (tie.spec
     (λ c κs. search needs)
-    returns
+    (λ c. sym (rw (sym (c .before .axis-stays .ensures) ∙ not-true _ (c .if1 .taken))))
     (λ c κs. search needs)
-    returns-2
+    (λ c.
+    let p = c .before .before in
+    sym (rw (sym (p .before .axis-stays .ensures) ∙ not-false _ (p .if1 .left), sym (c .before .axis-stays2 .ensures) ∙ not-true _ (c .if2 .taken))))
     (λ c κs. search needs)
-    returns-3)
+    (λ c.
+    let q = c .before .before in
+    let p = q .before in
+    c .axis-stays3 .ensures ∙ sym (rw (sym (p .before .axis-stays .ensures) ∙ not-false _ (p .if1 .left), sym (q .axis-stays2 .ensures) ∙ not-false _ (c .before .if2 .left)))))

@@ -71,14 +71,7 @@ cell-calls t = (
 )
 
 abbrev children-calls : ℕ → shift-children-lts.Claims
-children-calls t = (
-  pow8-reads.Asked,
-  pow8-reads.Learnt,
-  pick-reads.Asked,
-  pick-reads.Learnt,
-  shift-cell-below t,
-  shift-cell.Post,
-)
+children-calls t = (pow8-reads.Asked, pow8-reads.Learnt, pick-reads.Asked, pick-reads.Learnt, shift-cell-below t, shift-cell.Post)
 
 -- ---- the cell
 
