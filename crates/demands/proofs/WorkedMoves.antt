@@ -30,7 +30,6 @@ use Rattle.metres.proofs.TakenLaws.{together-taken, bad-decides, whole-decides}
 use Rattle.shifts.specs.Shift.{shifted}
 use Rattle.moves.specs.Inner.{leafKeeps, back}
 use Rattle.moves.specs.Moves.{ShiftOf, ByVoxels, MoveOf}
-use Rattle.moves.specs.declared.inner.Parted.{Parted}
 use Rattle.moves.proofs.Acceptance.{splitOf}
 use Rattle.moves.proofs.MoveLaws.{move-of, stay, stays-accepted, moved-list, strays-told, room-told}
 use Rattle.demands.proofs.Outcomes.{Left}
@@ -56,22 +55,19 @@ edge-is d = go (leb (d .s) finest) refl
 -- ---- moves
 
 module _ (D : ℕ) (l : List ℕ) (d : ℕ → ℤ) where
-  abbrev p : ℕ → Parted
-  p a = splitOf (d a)
-
   -- by whether all leaves stay: the list of the displaced voxels, or the first leaf that strays
   abbrev pub shiftsWell : Bool → ℕ → Answer → List ℕ → Bool
-  shiftsWell true n r w = agrees (roomed n (goodList D (shifted D l (back D (λ a. splitOf (d a)))))) r w
+  shiftsWell true n r w = agrees (roomed n (goodList D (shifted D l (back D (splitOf d))))) r w
   shiftsWell false n r w =
       ltb (r .place) (length l)
-      && (stay D l d (r .place) && (not (leafKeeps D (λ a. splitOf (d a)) (getD l (r .place) 0)) && agrees (answer 7 (r .place) 1, []) r w))
+      && (stay D l d (r .place) && (not (leafKeeps D (splitOf d) (getD l (r .place) 0)) && agrees (answer 7 (r .place) 1, []) r w))
 
   shifts-fits : Good D l → (o : List ℕ) (r : Answer) (w : List ℕ) (t : Bool) → stay D l d (length l) ≡ t → shiftsWell t (length o) r w ≡ true → ShiftOf D l d o (leaving o (r, w))
   shifts-fits g o r w true s e =
       let ok = stays-accepted D l d (g .ordered) s in
       room-told D l d o _ ok (told-roomed D _ o _ (moved-list D l d (g .ordered) ok) r w e)
   shifts-fits g o r w false s e =
-      let keeps : Bool = leafKeeps D p (getD l (r .place) 0) in
+      let keeps : Bool = leafKeeps D (splitOf d) (getD l (r .place) 0) in
       let (a, f) = both-true (ltb (r .place) (length l)) (stay D l d (r .place) && (not keeps && agrees (answer 7 (r .place) 1, []) r w)) e in
       let (q, f') = both-true (stay D l d (r .place)) (not keeps && agrees (answer 7 (r .place) 1, []) r w) f in
       let (u, b) = both-true (not keeps) (agrees (answer 7 (r .place) 1, []) r w) f' in

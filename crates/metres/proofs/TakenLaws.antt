@@ -83,23 +83,23 @@ one-taken d t t' h h' = one-told t t' (one-outcome d (told t) (told t') h h')
 -- ---- the same tests in a call above, which leaves `refuse a` where one refuses with a
 
 module _ (W R : Type 0) (refuse : Answer → R) (Q : Answer ⊎ W → Type 0) (P : R → Type 0) where
-  refused-row : (Fs : List Test) (a : Answer) → (Q (inl a) → ⊥) → Decided inl Fs Q (inl a) → Decided refuse Fs P (refuse a)
-  refused-row [] a none q = absurd (none q)
-  refused-row (F ∷ Fs) a none (inl (b, f, e)) = let same : a ≡ b = cc in inl (b, f, ap refuse same)
-  refused-row (F ∷ Fs) a none (inr (n, d)) = inr (n, refused-row Fs a none d)
+  row : (Fs : List Test) (x : Answer ⊎ W) (r : R) → ((a : Answer) → x ≡ inl a → r ≡ refuse a) → (Q x → P r) → Decided inl Fs Q x → Decided refuse Fs P r
+  row [] x r refused f q = f q
+  row (F ∷ Fs) x r refused f (inl (b, g, e)) = inl (b, g, refused b e)
+  row (F ∷ Fs) x r refused f (inr (n, d)) = inr (n, row Fs x r refused f d)
 
-  passed-row : (Fs : List Test) (v : W) (r : R) → (Q (inr v) → P r) → Decided inl Fs Q (inr v) → Decided refuse Fs P r
-  passed-row [] v r f q = f q
-  passed-row (F ∷ Fs) v r f (inl (b, g, e)) = let z : _≡_ {A = ℕ} 0 1 = cc in absurd (omega arith)
-  passed-row (F ∷ Fs) v r f (inr (n, d)) = inr (n, passed-row Fs v r f d)
+module _ {R : Type 0} (refuse : Answer → R) (P : R → Type 0) (d : Metres) where
+  decides : (x : Answer ⊎ (ℤ × ℤ × ℤ)) (r : R) → ((a : Answer) → x ≡ inl a → r ≡ refuse a) → (Voxelled (MoveV.Metres d) x → P r) → Decided inl (moveTests (MoveV.Metres d)) (Voxelled (MoveV.Metres d)) x
+      → Decided refuse (moveTests (MoveV.Metres d)) P r
+  decides = row (ℤ × ℤ × ℤ) R refuse (Voxelled (MoveV.Metres d)) P (moveTests (MoveV.Metres d))
 
-pub bad-decides : {R : Type 0} (refuse : Answer → R) (P : R → Type 0) (d : Metres) (p : ℕ) → TakenOf d (TakenV.Bad p) → Decided refuse (moveTests (MoveV.Metres d)) P (refuse (answer 5 p 0))
-bad-decides {R} refuse P d p h = refused-row (ℤ × ℤ × ℤ) R refuse (Voxelled (MoveV.Metres d)) P (moveTests (MoveV.Metres d)) (answer 5 p 0) (λ q. let e = q .4 in let z : _≡_ {A = ℕ} 0 1 = cc in omega arith) h
+  pub bad-decides : (p : ℕ) → TakenOf d (TakenV.Bad p) → Decided refuse (moveTests (MoveV.Metres d)) P (refuse (answer 5 p 0))
+  bad-decides p = decides (inl (answer 5 p 0)) _ (λ a e. let same : answer 5 p 0 ≡ a = cc in ap refuse same) (λ q. absurd (let e = q .4 in let z : _≡_ {A = ℕ} 0 1 = cc in omega arith))
 
-pub whole-decides : {R : Type 0} (refuse : Answer → R) (P : R → Type 0) (d : Metres) (i j k : ℤ) (r : R) → TakenOf d (TakenV.Voxels i j k) → (Becomes (MoveV.Metres d) (axes i j k) → P r) → Decided refuse (moveTests (MoveV.Metres d)) P r
-whole-decides {R} refuse P d i j k r h f = passed-row (ℤ × ℤ × ℤ) R refuse (Voxelled (MoveV.Metres d)) P (moveTests (MoveV.Metres d)) (i, j, k) r same h
-  where
-    same : Voxelled (MoveV.Metres d) (inr (i, j, k)) → P r
-    same (i', j', k', b, e) =
-        let (x, y, z) = same-three i j k i' j' k' e in
-        f (rw (← x, ← y, ← z) at b)
+  pub whole-decides : (i j k : ℤ) (r : R) → TakenOf d (TakenV.Voxels i j k) → (Becomes (MoveV.Metres d) (axes i j k) → P r) → Decided refuse (moveTests (MoveV.Metres d)) P r
+  whole-decides i j k r h f = decides (inr (i, j, k)) r (λ a e. absurd (let z : _≡_ {A = ℕ} 0 1 = cc in omega arith)) same h
+    where
+      same : Voxelled (MoveV.Metres d) (inr (i, j, k)) → P r
+      same (i', j', k', b, e) =
+          let (x, y, z) = same-three i j k i' j' k' e in
+          f (rw (← x, ← y, ← z) at b)

@@ -40,12 +40,15 @@ splits-above (pos n) p h = h
 splits-above (negsuc n) p h = h
 
 -- every displacement has them
-abbrev pub splitOf : ℤ → Parted
-splitOf d = record { up = above d; down = below d }
+abbrev pub splitOf : (ℕ → ℤ) → ℕ → Parted
+splitOf d a = record { up = above (d a); down = below (d a) }
 
-pub splits-of : (d : ℤ) → Splits d (splitOf d)
-splits-of (pos n) = (refl, refl)
-splits-of (negsuc n) = (refl, refl)
+pub splits-of : (d : ℕ → ℤ) → EachAxis (λ a. Splits (d a) (splitOf d a))
+splits-of d a h = go (d a)
+  where
+    go : (z : ℤ) → Splits z (record { up = above z; down = below z })
+    go (pos n) = (refl, refl)
+    go (negsuc n) = (refl, refl)
 
 -- ---- one axis
 
@@ -154,11 +157,9 @@ module _ (D : ℕ) (d : ℕ → ℤ) (p : ℕ → Parted) (split : EachAxis (λ 
 pub accepted-exactly : (D : ℕ) (d : ℕ → ℤ) (l : List ℕ) → Ordered D 0 l → ((a : Answer) → Straying D (Came D d) l a → ⊥) ↔ Accepted D (Came D d) l
 accepted-exactly D d l o = (to, accepted-passes D (Came D d) l)
   where
-    p : ℕ → Parted
-    p a = splitOf (d a)
-
-    split : EachAxis (λ a. Splits (d a) (p a))
-    split a h = splits-of (d a)
-
     to : ((a : Answer) → Straying D (Came D d) l a → ⊥) → Accepted D (Came D d) l
-    to none = ⊎-elim (λ (i, f). absurd (none _ (i, first-strays D d p split l o f, refl))) (all-stay D d p split l o) (first-false (λ i. leafKeeps D p (getD l i 0)) (length l))
+    to none =
+        ⊎-elim
+        (λ (i, f). absurd (none _ (i, first-strays D d (splitOf d) (splits-of d) l o f, refl)))
+        (all-stay D d (splitOf d) (splits-of d) l o)
+        (first-false (λ i. leafKeeps D (splitOf d) (getD l i 0)) (length l))

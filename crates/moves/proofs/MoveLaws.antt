@@ -8,7 +8,7 @@ use native.Mathlib.Omega.{arith}
 use lib.IntN.{ℤ}
 use lib.ListN.{length, getD}
 use Rattle.cells.specs.Answer.{answer, Decided, keeping, deepest, TooDeep}
-use Rattle.cells.specs.Place.{axes, EachAxis, Came}
+use Rattle.cells.specs.Place.{axes, Came}
 use Rattle.cells.specs.declared.Answer.{Answer}
 use Rattle.cells.proofs.Bools.{clash}
 use Rattle.cells.proofs.Decisions.{One, Ones, one-refuses, one-refuses-first, one-decided, passes, deep-enough}
@@ -27,8 +27,7 @@ use Rattle.metres.specs.declared.Move.the-variants as MoveV
 use Rattle.metres.proofs.TakenLaws.{one-becomes}
 use Rattle.shifts.specs.Shift.{shifted}
 use Rattle.moves.specs.Moves.{ShiftOf, ByVoxels, MoveOf}
-use Rattle.moves.specs.Inner.{Splits, leafKeeps, back}
-use Rattle.moves.specs.declared.inner.Parted.{Parted}
+use Rattle.moves.specs.Inner.{leafKeeps, back}
 use Rattle.moves.proofs.Acceptance.{splitOf, splits-of, first-strays, all-stay}
 use Rattle.moves.proofs.Back.{shifted-exactly}
 
@@ -40,30 +39,24 @@ pub move-of : (D : ℕ) (l : List ℕ) (m : Move) (o : List ℕ) (r : Answer) (o
 move-of D l m o r o' h good d = inr (passes (deep-enough h), inr (good-passes D l 1 good, d))
 
 module _ (D : ℕ) (l : List ℕ) (d : ℕ → ℤ) where
-  abbrev p : ℕ → Parted
-  p a = splitOf (d a)
-
-  split : EachAxis (λ a. Splits (d a) (p a))
-  split a h = splits-of (d a)
-
   -- whether each of the first n leaves stays
   abbrev pub stay : ℕ → Bool
-  stay n = allFrom (λ i. leafKeeps D (λ a. splitOf (d a)) (getD l i 0)) 0 n
+  stay n = allFrom (λ i. leafKeeps D (splitOf d) (getD l i 0)) 0 n
 
-  stays : (n : ℕ) → stay n ≡ true → (i : ℕ) → i < n → leafKeeps D p (getD l i 0) ≡ true
-  stays n e i h = all-true (λ j. leafKeeps D p (getD l j 0)) 0 n e i zero-le (omega arith)
+  stays : (n : ℕ) → stay n ≡ true → (i : ℕ) → i < n → leafKeeps D (splitOf d) (getD l i 0) ≡ true
+  stays n e i h = all-true (λ j. leafKeeps D (splitOf d) (getD l j 0)) 0 n e i zero-le (omega arith)
 
   module _ (o : Ordered D 0 l) where
     pub stays-accepted : stay (length l) ≡ true → Accepted D (Came D d) l
-    stays-accepted e = all-stay D d p split l o (stays (length l) e)
+    stays-accepted e = all-stay D d (splitOf d) (splits-of d) l o (stays (length l) e)
 
     -- the displaced voxels as a list
-    pub moved-list : Accepted D (Came D d) l → ListOf D (FromBlack D (Came D d) l) (goodList D (shifted D l (back D (λ a. splitOf (d a)))))
-    moved-list ok = list-same D (λ v. shifted D l (back D p) v ≡ true) (FromBlack D (Came D d) l) _ (shifted-exactly D d p split l o ok) (good-list D (shifted D l (back D p)))
+    pub moved-list : Accepted D (Came D d) l → ListOf D (FromBlack D (Came D d) l) (goodList D (shifted D l (back D (splitOf d))))
+    moved-list ok = list-same D (λ v. shifted D l (back D (splitOf d)) v ≡ true) (FromBlack D (Came D d) l) _ (shifted-exactly D d (splitOf d) (splits-of d) l o ok) (good-list D (shifted D l (back D (splitOf d))))
 
     -- the first leaf that strays is told
-    pub strays-told : (buffer : List ℕ) (n : ℕ) → n < length l → stay n ≡ true → leafKeeps D (λ a. splitOf (d a)) (getD l n 0) ≡ false → ShiftOf D l d buffer (answer 7 n 1, buffer)
-    strays-told buffer n h e f = inl (_, (n, first-strays D d p split l o (record { below = h; here = f; before = λ j k no. clash (stays n e j k) no }), refl), refl)
+    pub strays-told : (buffer : List ℕ) (n : ℕ) → n < length l → stay n ≡ true → leafKeeps D (splitOf d) (getD l n 0) ≡ false → ShiftOf D l d buffer (answer 7 n 1, buffer)
+    strays-told buffer n h e f = inl (_, (n, first-strays D d (splitOf d) (splits-of d) l o (record { below = h; here = f; before = λ j k no. clash (stays n e j k) no }), refl), refl)
 
   -- else the room decides
   pub room-told : (buffer : List ℕ) (t : Answer × List ℕ) → Accepted D (Came D d) l → Told D (FromBlack D (Came D d) l) buffer t → ShiftOf D l d buffer t

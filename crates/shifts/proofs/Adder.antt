@@ -104,21 +104,13 @@ needs-level (suc n) w h = omega arith
 
 -- ---- the source of a voxel lies in the slot that its last labels carry to
 
-eighth : (x t : ℕ) → t < 8 → (8 * x + t) / 8 ≡ x
-eighth x t h = omega arith
-
 pub source-cell : (D w n v : ℕ) → n ≤ D → shift D w 0 v / 8 ^ n ≡ cellOf D w n (v / 8 ^ n) (carry n w v)
 unfolding cellOf carry
 source-cell D w zero v h = simp (pow-zero, div-one, sub-zero)
 source-cell D w (suc n) v h =
     let e : D - n ≡ suc (D - suc n) = omega arith in
-    let hh = w / 8 ^ n % 8 in
-    let mm = v / 8 ^ n % 8 in
-    let q = carry n w v in
-    sym (div-up n (shift D w 0 v))
-    ∙ ap (λ (x : ℕ). x / 8) (source-cell D w n v (omega arith) ∙ ap (λ (j : ℕ). shift j (w / 8 ^ n) q (v / 8 ^ n)) e ∙ shift-step (D - suc n) (w / 8 ^ n) q (v / 8 ^ n))
-    ∙ eighth (shift (D - suc n) (w / 8 ^ n / 8) (carryLabel hh mm q) (v / 8 ^ n / 8)) (sumLabel hh mm q) (sum-lt hh mm q)
-    ∙ rw (div-up n w, div-up n v)
+    rw (← div-up n (shift D w 0 v), source-cell D w n v (omega arith), e, shift-step (D - suc n) (w / 8 ^ n) (carry n w v) (v / 8 ^ n), ← div-up n w, ← div-up n v)
+    (omega (arith, sum-lt (w / 8 ^ n % 8) (v / 8 ^ n % 8) (carry n w v)))
 
 -- ---- where the rest of the shift is 0, the one source cell is copied as it is
 

@@ -21,31 +21,24 @@ Inv-loop w k f₀ rest₀ n₀ f rest n = Joined w k f rest n
 abbrev μ-loop : tie.MeasureT-loop
 μ-loop w k f₀ rest₀ n₀ f rest n = k - n
 
-loop-holds : tie.Need-loop-holds Inv-loop μ-loop
+pub axes-spec : {M : Type 1} → statement M
 unfolding need
-loop-holds c = record { turns = omega arith; left = simp (pow-zero, div-one); axes = refl }
-
-join-label-requires : tie.Need-join-label-requires Inv-loop μ-loop
-join-label-requires c κs =
-    let u = c .before .loop in
-    (omega (arith, u .inv .axes, need-lt (u .n) (c .before .before .args .w)), omega arith)
-
-loop-again : tie.Need-loop-again Inv-loop μ-loop
-unfolding need
-loop-again c =
+axes-spec =
+    tie.close
+    (tie.spec
+    Inv-loop μ-loop
+    (λ c. record { turns = omega arith; left = simp (pow-zero, div-one); axes = refl })
+    (λ c κs. let u = c .before .loop in (omega (arith, u .inv .axes, need-lt (u .n) (c .before .before .args .w)), omega arith))
+    (λ c. search needs) (λ c. search needs)
+    (λ c.
     let u = c .before .before .loop in
     rw (add-one (u .n))
     (record {
       turns = c .before .loop-test .taken;
       left = rw (u .inv .left) (div-up (u .n) (c .before .before .before .args .w));
       axes = c .join-label .ensures .0 ∙ rw (u .inv .axes, u .inv .left);
-    })
-
-returns : tie.Need-returns Inv-loop μ-loop
-returns c =
+    }))
+    (λ c.
     let u = c .before .loop in
     let all : u .n ≡ c .before .before .args .k = omega (arith, u .inv .turns, c .loop-test .left) in
-    rw (← all) (u .inv .axes)
-
-pub axes-spec : {M : Type 1} → statement M
-axes-spec = tie.close (tie.spec Inv-loop μ-loop loop-holds join-label-requires (λ c. search needs) (λ c. search needs) loop-again returns)
+    rw (← all) (u .inv .axes)))
