@@ -19,15 +19,15 @@ one-first i j p q = go (le-or-lt i j) (le-or-lt j i)
     go (inl h) (inr k) = absurd (q .before i k (p .here))
 
 -- one number more
-pub first-more : {n : ℕ} {P : ℕ → Type 0} {i : ℕ} → First n P i → First (suc n) P i
-first-more f = record { below = omega (arith, f .below); here = f .here; before = f .before }
+pub first-more : {n m : ℕ} {P : ℕ → Type 0} {i : ℕ} → n ≤ m → First n P i → First m P i
+first-more h f = record { below = omega (arith, f .below); here = f .here; before = f .before }
 
 pub first-or-none : (P : ℕ → Type 0) → ((j : ℕ) → P j ⊎ (P j → ⊥)) → (n : ℕ) → ((i : ℕ) × First n P i) ⊎ ((j : ℕ) → j < n → P j → ⊥)
 first-or-none P decide zero = inr (λ j h. absurd (omega arith))
 first-or-none P decide (suc n) = go (first-or-none P decide n) (decide n)
   where
     go : ((i : ℕ) × First n P i) ⊎ ((j : ℕ) → j < n → P j → ⊥) → P n ⊎ (P n → ⊥) → ((i : ℕ) × First (suc n) P i) ⊎ ((j : ℕ) → j < suc n → P j → ⊥)
-    go (inl (i, f)) d = inl (i, first-more f)
+    go (inl (i, f)) d = inl (i, first-more (omega arith) f)
     go (inr none) (inl p) = inl (n, record { below = le-refl (suc n); here = p; before = none })
     go (inr none) (inr q) = inr (λ j h. ⊎-elim (λ (e : j ≡ n). rw e q) (λ (l : j < n). none j l) (eq-or-lt-of-le (le-of-suc-le-suc h)))
 

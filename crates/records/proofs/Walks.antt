@@ -47,8 +47,8 @@ begins D l =
     (record { faultless = λ j h. absurd (omega arith); is-passed = refl; is-last = refl; is-past = refl; is-run = refl; is-sum = refl; few = zero-le; count = zero-le; within = zero-le })
 
 -- a walk that has ended stays as it is
-pub stays : {D : ℕ} {l : List ℕ} {i : ℕ} {w : Walk} → Walked D l i w → (w .number ≡ 0 → ⊥) → Walked D l (i + 1) w
-stays k some = record { stopped = λ n. rw add-one (first-more (k .stopped n)); is-number = k .is-number; kept = λ z. absurd (some z) }
+pub stays : {D : ℕ} {l : List ℕ} {i n : ℕ} {w : Walk} → Walked D l i w → (w .number ≡ 0 → ⊥) → i ≤ n → Walked D l n w
+stays k some h = record { stopped = λ n. first-more h (k .stopped n); is-number = k .is-number; kept = λ z. absurd (some z) }
 
 module _ {D : ℕ} {l : List ℕ} {i : ℕ} {w : Walk} {c : ℕ} (k : Faultless D l i w) (e : getD l i 0 ≡ c) where
   next-is : runOf l (suc i) ≡ nextRun (w .last) (w .run) c

@@ -103,7 +103,7 @@ pub fn step(depth: u32, walk: Walk, code: u32) -> Walk
     }
 }
 
-// A walk along a whole list.
+// A walk along a list, to its end or its first fault.
 pub fn judge(depth: u32, list: &[u32]) -> Walk
     requires { ⌜ depth ≤ deepest ⌝ }
     ensures { λ r. do ⌜ Walked depth (now (list .entry)) (length (now (list .entry))) r ⌝ }
@@ -112,6 +112,10 @@ pub fn judge(depth: u32, list: &[u32]) -> Walk
     let mut i: usize = 0;
     while i < list.len() {
         walk = step(depth, walk, list[i]);
+        let number = walk.number;
+        if number != 0 {
+            return walk;
+        }
         i += 1;
     }
     walk

@@ -13,7 +13,7 @@ ghost use Rattle.records.specs.Walk.{Walked};
 ghost use Rattle.blocks.specs.Block.{depthOf, codes};
 ghost use Rattle.blocks.specs.Inner.{Sound, HoldingOf};
 
-// A walk along the n codes of a sound file.
+// A walk along the n codes of a sound file, to their end or the first fault.
 pub fn judge_stored(depth: u32, bytes: &[u8], n: usize) -> Walk
     requires { ⌜ Sound (now bytes) × (depth ≡ depthOf (now bytes)) × (n ≡ length (codes (now bytes))) ⌝ }
     ensures { λ r. ⌜ Walked depth (codes (now (bytes .entry))) (length (codes (now (bytes .entry)))) r ⌝ }
@@ -22,6 +22,10 @@ pub fn judge_stored(depth: u32, bytes: &[u8], n: usize) -> Walk
     let mut i: usize = 0;
     while i < n {
         walk = step(depth, walk, code_at(bytes, i));
+        let number = walk.number;
+        if number != 0 {
+            return walk;
+        }
         i += 1;
     }
     walk

@@ -1,10 +1,11 @@
 -- `records::inner::judge` meets its contract. The loop's invariant: `walk` has passed the first i leaves. Assumes nothing.
 use mathlib.Core.Path.{refl, subst}
-use Prim.Native.Nat.{ℕ, _-_, _≤_}
+use Prim.Native.Nat.{ℕ, _+_, _-_, _≤_}
 use native.Mathlib.Omega.{arith}
 use lib.ListN.{length}
 use borrow.Author.Needs.{needs}
 use Rattle.records.specs.Walk.{Walked}
+use Rattle.records.proofs.Walks.{stays}
 use Rattle.records.proofs.inner.judge.Statement.{statement}
 use Rattle.records.proofs.inner.judge.Tie as tie
 
@@ -20,14 +21,16 @@ module _ (c : tie.In-loop Inv-loop μ-loop) where
   abbrev s : tie.Start Inv-loop μ-loop
   s = c .before .before .before .before
 
-loop-again : tie.Need-loop-again Inv-loop μ-loop
-loop-again c =
-    let t = c .before .before in
-    let o = t .before .loop in
-    (omega (arith, t .loop-test .taken), c .step .ensures (s t .args .list .now) (o .i) (o .inv .1) refl)
+-- a leaf more is passed
+module _ (c : tie.After-step Inv-loop μ-loop) where
+  abbrev p : tie.In-loop Inv-loop μ-loop
+  p = c .before .before
 
-returns : tie.Need-returns Inv-loop μ-loop
-returns c =
+  more : Walked (s p .args .depth) (s p .args .list .now) (p .before .loop .i + 1) (c .step .result)
+  more = c .step .ensures (s p .args .list .now) (p .before .loop .i) (p .before .loop .inv .1) refl
+
+returns-2 : tie.Need-returns-2 Inv-loop μ-loop
+returns-2 c =
     let a = c .before .before .before .before .args in
     let o = c .before .loop in
     subst (λ (n : ℕ). Walked (a .depth) (a .list .now) n (o .walk)) (omega (arith, c .loop-test .left, o .inv .0)) (o .inv .1)
@@ -43,7 +46,8 @@ judge-spec =
     (λ c. search needs)
     (λ c. search needs)
     (λ c κs. let t = c .before in (s t .pre, (s t .args .list .now, t .before .loop .i, t .before .loop .inv .1)))
+    (λ c. stays (more (c .before)) (c .if1 .taken) (omega (arith, p (c .before) .loop-test .taken)))
     (λ c. search needs)
     (λ c. search needs)
-    loop-again
-    returns)
+    (λ c. (omega (arith, p (c .before) .loop-test .taken), more (c .before)))
+    returns-2)

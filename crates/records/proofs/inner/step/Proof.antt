@@ -96,7 +96,7 @@ pub step-spec : {M : Type 1} → statement M
 step-spec =
     tie.close
     (tie.spec
-    (λ c. λ l i w e. stays w (c .if1 .taken))
+    (λ c. λ l i w e. stays w (c .if1 .taken) (omega arith))
     (λ c κs. search needs)
     (λ c κs. search needs)
     returns-2

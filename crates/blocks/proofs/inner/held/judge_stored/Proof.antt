@@ -1,11 +1,13 @@
 -- `blocks::inner::held::judge_stored` meets its contract: the walk, with the codes read where they stand in the blocks. The loop's invariant: `walk` has passed
 -- the first i leaves. Assumes nothing.
 use mathlib.Core.Path.{sym, subst, _∙_}
-use Prim.Native.Nat.{ℕ, _-_, _≤_, _<_}
+use mathlib.Core.List.{List}
+use Prim.Native.Nat.{ℕ, _+_, _-_, _≤_, _<_}
 use native.Mathlib.Omega.{arith}
 use borrow.Author.Needs.{needs}
 use lib.ListN.{length}
 use Rattle.records.specs.Walk.{Walked}
+use Rattle.records.proofs.Walks.{stays}
 use Rattle.blocks.specs.Block.{codes}
 use Rattle.blocks.proofs.Sound.{codes-at, shallow-file, code-within}
 use Rattle.blocks.proofs.inner.held.judge_stored.Statement.{statement}
@@ -31,17 +33,19 @@ step-requires c κs =
     let o = c .before .before .loop in
     (omega (arith, s .pre .1, shallow-file (s .args .bytes .now) (s .pre .0)), (codes (s .args .bytes .now), o .i, o .inv .1))
 
-loop-again : tie.Need-loop-again Inv-loop μ-loop
-loop-again c =
-    let p = c .before .before in
-    let s = start p in
-    let o = p .before .loop in (
-      omega (arith, p .loop-test .taken),
-      c .step .ensures (codes (s .args .bytes .now)) (o .i) (o .inv .1) (codes-at (s .args .bytes .now) (o .i) (there p) ∙ sym (c .before .code-at .ensures)),
-    )
+-- a leaf more is passed
+module _ (c : tie.After-step Inv-loop μ-loop) where
+  abbrev p : tie.In-loop Inv-loop μ-loop
+  p = c .before .before
 
-returns : tie.Need-returns Inv-loop μ-loop
-returns c =
+  abbrev b : List ℕ
+  b = start p .args .bytes .now
+
+  more : Walked (start p .args .depth) (codes b) (p .before .loop .i + 1) (c .step .result)
+  more = c .step .ensures (codes b) (p .before .loop .i) (p .before .loop .inv .1) (codes-at b (p .before .loop .i) (there p) ∙ sym (c .before .code-at .ensures))
+
+returns-2 : tie.Need-returns-2 Inv-loop μ-loop
+returns-2 c =
     let s = c .before .before .before .before in
     let w = c .before .loop in
     subst (λ (n : ℕ). Walked (s .args .depth) (codes (s .args .bytes .now)) n (w .walk)) (omega (arith, c .loop-test .left, w .inv .0, s .pre .2)) (w .inv .1)
@@ -56,7 +60,8 @@ judge-stored-spec =
     (λ c. (search needs, c .begin .ensures _ _))
     (λ c κs. code-within (start c .args .bytes .now) (start c .pre .0) (c .before .loop .i) (there c))
     step-requires
+    (λ c. stays (more (c .before)) (c .if1 .taken) (omega (arith, there (p (c .before)))))
     (λ c. search needs)
     (λ c. search needs)
-    loop-again
-    returns)
+    (λ c. (omega (arith, p (c .before) .loop-test .taken), more (c .before)))
+    returns-2)
