@@ -49,9 +49,7 @@ pub fn pick(p: [[Slot; 8]; 8], h: u32, m: u32) -> [Slot; 8]
     while q < 8 {
         let from = carry_label(h, m, q as u32) as usize;
         let label = sum_label(h, m, q as u32) as usize;
-        let row = p[from];
-        let s = row[label];
-        r[q] = s;
+        r[q] = p[from][label];
         q += 1;
     }
     r

@@ -23,7 +23,7 @@ abbrev μ-loop : tie.MeasureT-loop
 
 loop-again : tie.Need-loop-again Inv-loop μ-loop
 loop-again c =
-    let picked = c .before .before in
+    let picked = c .before in
     let head = picked .before .before .before in
     prefix-more _ _ 8 (head .loop .r) (head .loop .q) _ (omega (arith, picked .before .before .loop-test .taken)) (rw (picked .before .carry-label .ensures .0, picked .sum-label .ensures .0)) (head .loop .inv)
 
@@ -33,8 +33,7 @@ pick-spec =
     (tie.spec
     Inv-loop μ-loop
     (λ c. prefix-none _ _ 8 _ refl)
-    (λ c. search needs) (λ c κs. search needs) (λ c. search needs) (λ c. search needs) (λ c κs. search needs) (λ c. search needs)
-    (λ c. search needs) (λ c. search needs) (λ c. search needs) (λ c. search needs) (λ c. search needs) (λ c. search needs)
-    (λ c. search needs) (λ c. search needs)
+    (λ c. search needs) (λ c κs. search needs) (λ c. search needs) (λ c. search needs) (λ c κs. search needs) (λ c. search needs) (λ c. search needs)
+    (λ c. search needs) (λ c. search needs) (λ c. search needs) (λ c. search needs) (λ c. search needs) (λ c. search needs) (λ c. search needs)
     loop-again
     (λ c q h. c .before .loop .inv .each q (omega (arith, c .loop-test .left))))
