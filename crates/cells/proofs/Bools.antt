@@ -1,7 +1,7 @@
 -- Truth values. Assumes nothing.
 use mathlib.Core.Path.{_≡_, refl, sym, _∙_}
 use mathlib.Core.Bool.{Bool, true, false, _&&_, true≢false}
-use mathlib.Core.Logic.{_↔_}
+use mathlib.Core.Logic.{_⊎_, inl, inr, _↔_}
 
 -- both halves of a test hold
 pub both-true : (a b : Bool) → (a && b) ≡ true → (a ≡ true) × (b ≡ true)
@@ -9,6 +9,11 @@ both-true true true e = (refl, refl)
 both-true true false e = (refl, e)
 both-true false true e = (e, refl)
 both-true false false e = (e, e)
+
+-- one of them fails
+pub one-false : (a b : Bool) → (a && b) ≡ false → (a ≡ false) ⊎ (b ≡ false)
+one-false true b e = inr e
+one-false false b e = inl refl
 
 -- a test that does not hold is false
 pub refuted : (t : Bool) → (t ≡ true → ⊥) → t ≡ false

@@ -4,9 +4,10 @@ use mathlib.Core.Path.{_≡_, refl, sym, ap, _∙_}
 use Prim.Native.Nat.{ℕ, zero, suc, _+_, _-_, _*_, _/_, _%_, _^_, _<_, zero-le, suc-le-suc}
 use native.Mathlib.Nat.{pow-zero, mul-one, zero-div, add-zero, add-suc, div-one}
 use native.Mathlib.Omega.{arith}
+use mathlib.Core.Logic.{⊎-elim}
 use mathlib.Core.Bool.{Bool, true, false, _&&_}
 use Rattle.cells.specs.Place.{EachAxis, allAxes, along, number}
-use Rattle.cells.proofs.Bools.{both-true}
+use Rattle.cells.proofs.Bools.{both-true, one-false}
 use Rattle.cells.proofs.Power.{pow2-suc, pow8-pos, pow8-suc, div-pow}
 
 -- what holds of x, y and z holds of each axis
@@ -27,12 +28,8 @@ pub all-pass : (P : ℕ → Bool) → EachAxis (λ a. P a ≡ true) → allAxes 
 all-pass P h = rw (h 0 (omega arith), h 1 (omega arith), h 2 (omega arith))
 
 pub some-false : (P : ℕ → Bool) → allAxes P ≡ false → (a : ℕ) × (a < 3) × (P a ≡ false)
-some-false P e = go (P 0) refl (P 1) refl e
-  where
-    go : (s : Bool) → P 0 ≡ s → (t : Bool) → P 1 ≡ t → (s && (t && P 2)) ≡ false → (a : ℕ) × (a < 3) × (P a ≡ false)
-    go false f t g h = (0, omega arith, f)
-    go true f false g h = (1, omega arith, g)
-    go true f true g h = (2, omega arith, h)
+some-false P e =
+    ⊎-elim (λ f. (0, omega arith, f)) (λ g. ⊎-elim (λ f. (1, omega arith, f)) (λ f. (2, omega arith, f)) (one-false (P 1) (P 2) g)) (one-false (P 0) (P 1 && P 2) e)
 
 -- ---- ranges
 

@@ -2,7 +2,7 @@
 -- strays. So no leaf strays just where each black voxel stays. Assumes nothing.
 use mathlib.Core.Path.{_≡_, refl, ap}
 use mathlib.Core.Logic.{_⊎_, inl, inr, ⊎-elim, _↔_}
-use mathlib.Core.Bool.{Bool, true, false, _&&_}
+use mathlib.Core.Bool.{Bool, true, false}
 use mathlib.Core.List.{List}
 use Prim.Native.Nat.{ℕ, _+_, _-_, _*_, _/_, _^_, _<_, _≤_}
 use native.Mathlib.Nat.{le-refl, div-add-mod', mod-lt}
@@ -15,7 +15,7 @@ use Rattle.cells.specs.Answer.{First}
 use Rattle.cells.specs.Cell.{level, proper, index, side, start, span, holds}
 use Rattle.cells.specs.Place.{EachAxis, along, number, corner, Displaced, Came}
 use Rattle.cells.specs.declared.Answer.{Answer}
-use Rattle.cells.proofs.Bools.{both-true}
+use Rattle.cells.proofs.Bools.{both-true, one-false}
 use Rattle.cells.proofs.Firsts.{first-false}
 use Rattle.cells.proofs.Integers.{above, below}
 use Rattle.cells.proofs.Cells.{span-pos}
@@ -65,15 +65,12 @@ keeps-place side x s d p P e w lo hi =
 -- where they do not, the first strays or the last
 loses-place : (side x s : ℕ) (d : ℤ) (p : Parted) → Splits d p → keeps side x s p ≡ false
     → ((w : ℕ) → w < side → Displaced d x w → ⊥) ⊎ ((w v : ℕ) → w < side → v + 1 ≡ x + s → Displaced d v w → ⊥)
-loses-place side x s d p P e = go (leb (p .down) (x + p .up)) refl e
-  where
-    q : (p .up ≡ above d) × (p .down ≡ below d)
-    q = splits-above d p P
-
-    go : (t : Bool) → leb (p .down) (x + p .up) ≡ t → (t && leb (x + s + p .up) (side + p .down)) ≡ false
-        → ((w : ℕ) → w < side → Displaced d x w → ⊥) ⊎ ((w v : ℕ) → w < side → v + 1 ≡ x + s → Displaced d v w → ⊥)
-    go false f _ = inl (λ w h m. omega (arith, q, leb-false (p .down) (x + p .up) f, displaced-parts d x w .0 m))
-    go true f g = inr (λ w v h k m. omega (arith, q, leb-false (x + s + p .up) (side + p .down) g, displaced-parts d v w .0 m))
+loses-place side x s d p P e =
+    let q = splits-above d p P in
+    ⊎-elim
+    (λ f. inl (λ w h m. omega (arith, leb-false (p .down) (x + p .up) f, displaced-parts d x w .0 m)))
+    (λ f. inr (λ w v h k m. omega (arith, leb-false (x + s + p .up) (side + p .down) f, displaced-parts d v w .0 m)))
+    (one-false (leb (p .down) (x + p .up)) (leb (x + s + p .up) (side + p .down)) e)
 
 -- ---- a leaf
 
@@ -86,16 +83,9 @@ place-in D c p b u h =
 
 module _ (D : ℕ) (d : ℕ → ℤ) (p : ℕ → Parted) (split : EachAxis (λ a. Splits (d a) (p a))) where
   module _ (c : ℕ) (is-proper : proper D c ≡ true) where
-    axis-kept : leafKeeps D p c ≡ true → EachAxis (λ a. keeps (2 ^ D) (corner (2 ^ a) D c) (side D c) (p a) ≡ true)
-    unfolding leafKeeps keepsAlong
-    axis-kept e = each-true (λ a. keepsAlong D (2 ^ a) (p a) c) e
-
-    axis-lost : leafKeeps D p c ≡ false → (a : ℕ) × (a < 3) × (keeps (2 ^ D) (corner (2 ^ a) D c) (side D c) (p a) ≡ false)
-    unfolding leafKeeps keepsAlong
-    axis-lost e = some-false (λ a. keepsAlong D (2 ^ a) (p a) c) e
-
     -- each voxel of a leaf that is kept stays
     pub leaf-stays : leafKeeps D p c ≡ true → (u : ℕ) → holds D c u ≡ true → (v : ℕ) × Came D d u v
+    unfolding leafKeeps keepsAlong
     leaf-stays e u h = (v, record { root = number-lt D (moved 0) (moved 1) (moved 2); each = λ a l. rw (along-axes D moved (λ a l. image a l .0) a l) (image a l .1) })
       where
         -- where each coordinate comes to
@@ -108,12 +98,13 @@ module _ (D : ℕ) (d : ℕ → ℤ) (p : ℕ → Parted) (split : EachAxis (λ 
         image : EachAxis (λ a. (moved a < 2 ^ D) × Displaced (d a) (along (2 ^ a) D u) (moved a))
         image a l =
             let (lo, hi) = place-in D c is-proper (2 ^ a) u h in
-            keeps-place (2 ^ D) (corner (2 ^ a) D c) (side D c) (d a) (p a) (split a l) (axis-kept e a l) (along (2 ^ a) D u) lo hi
+            keeps-place (2 ^ D) (corner (2 ^ a) D c) (side D c) (d a) (p a) (split a l) (each-true (λ a. keepsAlong D (2 ^ a) (p a) c) e a l) (along (2 ^ a) D u) lo hi
 
     -- a leaf that is not kept strays
     pub leaf-strays : leafKeeps D p c ≡ false → Strays D (Came D d) c
+    unfolding leafKeeps keepsAlong
     leaf-strays e =
-        let (a, l, f) = axis-lost e in
+        let (a, l, f) = some-false (λ a. keepsAlong D (2 ^ a) (p a) c) e in
         let s = span-pos D c in
         ⊎-elim
         (λ n. (

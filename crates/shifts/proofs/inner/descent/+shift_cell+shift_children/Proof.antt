@@ -95,27 +95,6 @@ module _ (t : ℕ) (q : shift-cell-lts.After-colour (cell-calls t) (shift-cell-a
   level : suc (start .args .c .k - 1) ≡ start .args .c .k
   level = omega (arith, parent)
 
-module _ (t : ℕ) where
-  shift-children-requires : shift-cell-lts.Need-shift-children-requires (cell-calls t) (shift-cell-at t) shift-cell.Post
-  shift-children-requires c κs =
-      let axes = c .before in
-      let split = axes .before in
-      let q = split .before .before .before in
-      (omega (arith, start t q .pre .0, parent t q), aimed-divides (aimed t q) _ (level t q) (axes .axes .result) (axes .axes .ensures) (split .split .result) (split .split .ensures))
-
-  white : shift-cell-lts.Need-returns-2 (cell-calls t) (shift-cell-at t) shift-cell.Post
-  white c =
-      let q = c .before .before in
-      fed-white _ _ _ _ _ _ (omega arith) (aimed t q .root) (aimed-colour (aimed t q) _ (wide t q) (q .colour .ensures) false (c .enum-told .given .1)) (aimed t q .ready)
-
-  black : shift-cell-lts.Need-returns-3 (cell-calls t) (shift-cell-at t) shift-cell.Post
-  black c =
-      let told = c .before .before .before .before in
-      let q = told .before .before in
-      let w = wide t q in
-      fed-to _ _ (ap (λ (y : ℕ). start t q .args .c .from + y) w)
-      (c .before .before .push .ensures _ (λ v lo hi. aimed-colour (aimed t q) _ w (q .colour .ensures) true (told .enum-told2 .given .1) v lo (omega arith)))
-
 -- ---- the children
 
 abbrev shift-children-Inv-loop : shift-children-lts.InvT-loop
@@ -138,15 +117,6 @@ module _ (t : ℕ) (p : shift-children-lts.In-loop (children-calls t) (shift-chi
       let r = p .before .before .pow8 in
       omega (arith, child-within (u .m) (r .result) (p .loop-test .taken), pow8-suc (entry .args .c .k), r .ensures, u .inv .place, divides .root)
 
-module _ (t : ℕ) where
-  shift-cell-requires : shift-children-lts.Need-shift-cell-requires (children-calls t) (shift-children-at t) shift-children.Post shift-children-Inv-loop shift-children-μ-loop
-  shift-cell-requires c κs =
-      let p = c .before .before in
-      let a = entry t p .args in
-      let u = p .before .loop in
-      let place = u .inv .place ∙ ap (λ (y : ℕ). a .c .from + u .m * y) (p .before .before .pow8 .ensures) in
-      (omega (arith, entry t p .pre .0), child-aimed (divides t p) (a .w / 2 ^ (3 * a .c .k) % 8) (u .m) (u .v) (ap (λ (y : ℕ). a .w / y % 8) (pow8-bits (a .c .k))) (p .loop-test .taken) place (c .before .pick .ensures) (u .inv .fed .ready))
-
 pub +shift-cell+shift-children-spec : {M : Type 1} → statement M
 +shift-cell+shift-children-spec =
     close μ-shift-cell μ-shift-children
@@ -164,13 +134,22 @@ pub +shift-cell+shift-children-spec : {M : Type 1} → statement M
     (λ c. search needs)
     (λ c. parent t (c .before .before))
     (λ c κs. let q = c .before .before in (omega (arith, aimed t q .axes, need-lt (start t q .args .c .k) (start t q .args .w)), aimed-above (aimed t q) _ (level t q)))
-    (λ c. parent t (c .before .before .before))
-    (λ c. parent t (c .before .before .before))
+    (λ c. parent t (c .before .before .before)) (λ c. parent t (c .before .before .before))
     (λ c κs. search needs)
-    (shift-children-requires t)
-    (white t)
+    (λ c κs.
+    let axes = c .before in
+    let split = axes .before in
+    let q = split .before .before .before in
+    (omega (arith, start t q .pre .0, parent t q), aimed-divides (aimed t q) _ (level t q) (axes .axes .result) (axes .axes .ensures) (split .split .result) (split .split .ensures)))
+    (λ c.
+    let q = c .before .before in
+    fed-white _ _ _ _ _ _ (omega arith) (aimed t q .root) (aimed-colour (aimed t q) _ (wide t q) (q .colour .ensures) false (c .enum-told .given .1)) (aimed t q .ready))
     (λ c. search needs)
-    (black t)
+    (λ c.
+    let told = c .before .before .before .before in
+    let q = told .before .before in
+    fed-to _ _ (ap (λ (y : ℕ). start t q .args .c .from + y) (wide t q))
+    (c .before .before .push .ensures _ (λ v lo hi. aimed-colour (aimed t q) _ (wide t q) (q .colour .ensures) true (told .enum-told2 .given .1) v lo (omega (arith, wide t q)))))
     (λ c. search needs)
     (λ c. let q = c .before .before .before .before .before .before .before .before in fed-to _ _ (ap (λ (n : ℕ). start t q .args .c .from + 8 ^ n) (level t q)) (c .before .before .shift-children .ensures)))
     (λ t.
@@ -179,7 +158,12 @@ pub +shift-cell+shift-children-spec : {M : Type 1} → statement M
     (λ c. search needs) (λ c. search needs)
     (λ c. children-none (c .before .before .before .pre .1 .ready))
     (λ c κs. (omega arith, omega arith))
-    (shift-cell-requires t)
+    (λ c κs.
+    let p = c .before .before in
+    let a = entry t p .args in
+    let u = p .before .loop in
+    let place = u .inv .place ∙ ap (λ (y : ℕ). a .c .from + u .m * y) (p .before .before .pow8 .ensures) in
+    (omega (arith, entry t p .pre .0), child-aimed (divides t p) (a .w / 2 ^ (3 * a .c .k) % 8) (u .m) (u .v) (ap (λ (y : ℕ). a .w / y % 8) (pow8-bits (a .c .k))) (p .loop-test .taken) place (c .before .pick .ensures) (u .inv .fed .ready)))
     (λ c. let p = c .before .before .before .before .before in record { fits = omega (arith, within-root t p, pow8-small (entry t p .args .depth) (divides t p .source .deep)) })
     (λ c. search needs) (λ c. search needs)
     (λ c.
