@@ -59,13 +59,6 @@ returns-2 c =
       signed-axes (λ x. ShiftOf (a .depth) (a .list .now) x (a .out .now) left) _ _ _ (record { sfits = f .1 }) (record { sfits = g .1 }) (record { sfits = h .1 }) (w .ensures),
     )
 
--- metres: their tests
-returns-3 : tie.Need-returns-3
-returns-3 c =
-    let w = c .before .before .move-metres in
-    let t = c .before .before .before .before .before in
-    next (t .before .before) (w .result, w .last .1 .1 .1 .0) (t .m2 .given .1) (w .ensures)
-
 pub move-list-spec : {M : Type 1} → statement M
 move-list-spec =
     tie.close
@@ -79,4 +72,7 @@ move-list-spec =
     (λ c. search needs)
     returns-2
     (λ c. search needs)
-    returns-3)
+    (λ c.
+    let w = c .before .before .move-metres in
+    let t = c .before .before .before .before .before in
+    next (t .before .before) (w .result, w .last .1 .1 .1 .0) (t .m2 .given .1) (w .ensures)))

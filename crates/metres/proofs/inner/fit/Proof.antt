@@ -35,13 +35,6 @@ wide-is k h = toZ-ofZ (fits-64 k h) ∙ minus-is k h
 fits-32 : (k : ℕ) → k ≤ 2 ^ 31 → SFits w32 (toZ w64 (ofZ w64 (minus k)))
 fits-32 k h = record { sfits = rw (wide-is k h) (mag-neg k (2 ^ 31) (omega arith) h) }
 
--- ---- the needs: `fitted`, by the tests that led there
-returns : tie.Need-returns
-returns c =
-    let k = c .before .before .args .k in
-    let h : k ≤ 2 ^ 31 = omega arith in
-    ap Voxels (toZ-ofZ (fits-32 k h) ∙ wide-is k h) ∙ sym (rw (c .before .if1 .taken, le-leb k (2 ^ 31) h))
-
 pub fit-spec : {M : Type 1} → statement M
 fit-spec =
     tie.close
@@ -49,7 +42,10 @@ fit-spec =
     (λ c. search needs)
     (λ c. fits-64 (c .before .before .args .k) (omega arith))
     (λ c. fits-32 (c .before .before .args .k) (omega arith))
-    returns
+    (λ c.
+    let k = c .before .before .args .k in
+    let h : k ≤ 2 ^ 31 = omega arith in
+    ap Voxels (toZ-ofZ (fits-32 k h) ∙ wide-is k h) ∙ sym (rw (c .before .if1 .taken, le-leb k (2 ^ 31) h)))
     (λ c. let h : 2 ^ 31 < c .before .before .args .k = omega arith in sym (rw (c .before .if1 .taken, lt-leb _ _ h)))
     (λ c. search needs)
     (λ c. ap Voxels (toZ-pos w32 (c .if3 .taken)) ∙ sym (rw (c .before .if1 .left, lt-ltb _ _ (c .if3 .taken))))

@@ -71,19 +71,6 @@ whole-small c =
     let q : size start / den (start .args .a) < 2 ^ 43 = div-lt-iff-lt-mul (den-pos (start .args .a)) .1 (below start) in
     omega (arith, whole-is c)
 
--- ---- the needs
-int-to-float-per-metre : tie.Need-int-to-float-per-metre
-int-to-float-per-metre c =
-    let s = c .before .args .s in
-    let h = c .before .pre .0 in
-    rw (shifted s h) (is-whole (2 * 2 ^ s) (le-trans (pow-small s h) (lit≤ tt)))
-
-truncating-f64-to-u64-requires : tie.Need-truncating-f64-to-u64-requires
-truncating-f64-to-u64-requires c κs =
-    let start = c .before in
-    let d = den (start .args .a) in
-    (above-minus-one (product start) (size start) d (value start), below-two-64 (product start) (size start) d (value start) (den-pos (start .args .a)) (below-64 start))
-
 returns : tie.Need-returns
 returns c =
     let start = c .before .before .before in
@@ -103,7 +90,10 @@ halved-spec =
     tie.close
     (tie.spec
     (λ c. search needs)
-    int-to-float-per-metre
-    truncating-f64-to-u64-requires
+    (λ c. let s = c .before .args .s in let h = c .before .pre .0 in rw (shifted s h) (is-whole (2 * 2 ^ s) (le-trans (pow-small s h) (lit≤ tt))))
+    (λ c κs.
+    let start = c .before in
+    let d = den (start .args .a) in
+    (above-minus-one (product start) (size start) d (value start), below-two-64 (product start) (size start) d (value start) (den-pos (start .args .a)) (below-64 start)))
     (λ c. is-whole (c .before .truncating-f64-to-u64 .result) (whole-small (c .before)))
     returns)

@@ -6,8 +6,13 @@ use Rattle.metres.specs.declared.inner.Taken.the-variants as TakenV
 use Rattle.metres.proofs.inner.joined.Statement.{statement}
 use Rattle.metres.proofs.inner.joined.Tie as tie
 
-returns-4 : tie.Need-returns-4
-returns-4 c =
+pub joined-spec : {M : Type 1} → statement M
+joined-spec =
+    tie.close
+    (tie.spec
+    (λ c. search needs) (λ c. search needs) (λ c. search needs) (λ c. search needs) (λ c. search needs) (λ c. search needs)
+    (λ c. search needs) (λ c. search needs) (λ c. search needs)
+    (λ c.
     let gz = c .before in
     let gy = gz .before .before .before in
     let gx = gy .before .before .before in
@@ -18,12 +23,4 @@ returns-4 c =
       toZ-ofZ {w = w32} (record { sfits = gy .before .before .known-told .given .0 .1 }),
       toZ-ofZ {w = w32} (record { sfits = gz .before .before .known-told2 .given .0 .1 }),
       toZ-ofZ {w = w32} (record { sfits = c .known-told3 .given .0 .1 }),
-    )
-
-pub joined-spec : {M : Type 1} → statement M
-joined-spec =
-    tie.close
-    (tie.spec
-    (λ c. search needs) (λ c. search needs) (λ c. search needs) (λ c. search needs) (λ c. search needs) (λ c. search needs)
-    (λ c. search needs) (λ c. search needs) (λ c. search needs)
-    returns-4)
+    )))

@@ -33,16 +33,6 @@ module _ (c : tie.In-loop Inv-loop μ-loop) where
   comes : Comes (begun .args .depth) (found .cell-from .result) (begun .args .c .from) (getD (begun .args .l .now) (c .before .loop .i) 0) (c .before .loop .t)
   comes = copied-leaf (begun .pre .0 .held) (begun .pre .1) (at found) (begun .pre .0 .root) (c .before .loop .inv) (c .loop-test .taken)
 
-add-v : tie.Need-add-v Inv-loop μ-loop
-add-v c =
-    let p = comes (c .before .before) .piece in
-    record { fits = omega (arith, c .first .ensures, p .some, p .root, pow8-small _ (p .deep)) }
-
-add-push : tie.Need-add-push Inv-loop μ-loop
-add-push c =
-    let p = comes (c .before .before .before) .piece in
-    record { fits = omega (arith, c .before .first .ensures, c .width .ensures, p .root, pow8-small _ (p .deep)) }
-
 loop-again : tie.Need-loop-again Inv-loop μ-loop
 loop-again c =
     let push = c .before .before in
@@ -51,13 +41,6 @@ loop-again c =
     let s = begun turn in
     copied-next (s .pre .0 .held) (s .pre .1) (at (found turn)) (s .pre .0 .root) (turn .before .loop .inv) (turn .loop-test .taken)
     (width .before .first .result) (width .width .result) (width .before .first .ensures) (width .width .ensures) (push .push .kept .1 .1 .1 .1 .1 .0) (push .push .ensures)
-
-returns : tie.Need-returns Inv-loop μ-loop
-returns c = λ P b y h.
-    let f = c .before .before in
-    let s = start f in
-    copied-all (s .pre .0 .held) (s .pre .1) (at f) (s .pre .0 .root) (c .before .loop .inv) (c .loop-test .left) P
-    (λ v m n. h v m n ∙ ap (λ (x : ℕ). black (s .args .depth) (s .args .l .now) (x + (v - s .args .c .from))) (sym (f .cell-from .ensures b y)))
 
 pub copy-leaves-spec : {M : Type 1} → statement M
 copy-leaves-spec =
@@ -69,11 +52,17 @@ copy-leaves-spec =
     (λ c. omega (arith, c .before .loop-test .taken, begun (c .before) .pre .0 .held .part .within))
     (λ c κs. let x = comes (c .before) in (x .piece .deep, x .is-proper))
     (λ c. omega (arith, c .first .ensures, comes (c .before .before) .low))
-    add-v
+    (λ c. let p = comes (c .before .before) .piece in record { fits = omega (arith, c .first .ensures, p .some, p .root, pow8-small _ (p .deep)) })
     (λ c κs. let x = comes (c .before .before) in (x .piece .deep, x .is-proper))
-    add-push
+    (λ c.
+    let p = comes (c .before .before .before) .piece in
+    record { fits = omega (arith, c .before .first .ensures, c .width .ensures, p .root, pow8-small _ (p .deep)) })
     (λ c κs. rw (c .before .before .first .ensures, c .before .width .ensures) (comes (c .before .before .before .before) .piece))
     (λ c. search needs) (λ c. search needs)
     loop-again
     (λ c. c .before .loop .inv .size)
-    returns)
+    (λ c P b y h.
+    let f = c .before .before in
+    let s = start f in
+    copied-all (s .pre .0 .held) (s .pre .1) (at f) (s .pre .0 .root) (c .before .loop .inv) (c .loop-test .left) P
+    (λ v m n. h v m n ∙ ap (λ (x : ℕ). black (s .args .depth) (s .args .l .now) (x + (v - s .args .c .from))) (sym (f .cell-from .ensures b y)))))

@@ -38,18 +38,6 @@ module _ (q : tie.After-tint-slot) where
       let w = q .before .pow8 .ensures in
       record { deep = s .pre .held .source .deep; ready = s .pre .ready; some = omega (arith, pow8-pos (s .args .c .k)); root = omega (arith, s .pre .root) }
 
-returns : tie.Need-returns
-returns c = λ P b x h.
-    let q = c .before .before in
-    fed-white _ P _ _ _ _ (omega arith) (s q .pre .root) (colour q false (c .enum-told .given .1) P b x h) (s q .pre .ready)
-
-returns-2 : tie.Need-returns-2
-returns-2 c = λ P b x h.
-    let told = c .before .before .before .before in
-    let q = told .before .before in
-    let w = q .before .pow8 .ensures in
-    fed-to _ P (ap (λ (y : ℕ). from q + y) w) (c .before .before .push .ensures P (λ v lo hi. colour q true (told .enum-told2 .given .1) P b x h v lo (omega arith)))
-
 pub copy-slot-spec : {M : Type 1} → statement M
 copy-slot-spec =
     tie.close
@@ -59,8 +47,12 @@ copy-slot-spec =
     (λ c κs. piece (c .before .before .before))
     (λ c. search needs)
     (λ c κs. let q = c .before .before .before in (s q .pre, told q (c .before .enum-told3 .given .1)))
-    returns
+    (λ c P b x h. let q = c .before .before in fed-white _ P _ _ _ _ (omega arith) (s q .pre .root) (colour q false (c .enum-told .given .1) P b x h) (s q .pre .ready))
     (λ c. search needs)
-    returns-2
+    (λ c P b x h.
+    let told = c .before .before .before .before in
+    let q = told .before .before in
+    let w = q .before .pow8 .ensures in
+    fed-to _ P (ap (λ (y : ℕ). from q + y) w) (c .before .before .push .ensures P (λ v lo hi. colour q true (told .enum-told2 .given .1) P b x h v lo (omega arith))))
     (λ c. search needs)
     (λ c. c .before .before .copy-leaves .ensures))

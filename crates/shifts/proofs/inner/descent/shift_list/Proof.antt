@@ -6,9 +6,6 @@ use Rattle.shifts.proofs.Targets.{root-aimed}
 use Rattle.shifts.proofs.inner.descent.shift_list.Statement.{statement}
 use Rattle.shifts.proofs.inner.descent.shift_list.Tie as tie
 
-returns : tie.Need-returns
-returns c = c .before .before .finish .ensures _ _ (fed-all _ _ _ _ _ (fed-to _ _ (zero-add _) (c .before .before .before .before .before .before .shift-cell .ensures)))
-
 pub shift-list-spec : {M : Type 1} → statement M
 shift-list-spec =
     tie.close
@@ -16,4 +13,4 @@ shift-list-spec =
     (λ c κs. search needs)
     (λ c κs. root-aimed (c .before .before .before .before .pre) (c .before .axes .ensures))
     (λ c κs. search needs) (λ c. search needs)
-    returns)
+    (λ c. c .before .before .finish .ensures _ _ (fed-all _ _ _ _ _ (fed-to _ _ (zero-add _) (c .before .before .before .before .before .before .shift-cell .ensures)))))

@@ -24,27 +24,18 @@ Inv-loop depth l w f t r q₀ q = (p : ℕ) → p < q → Uses f p → SlotTint 
 abbrev μ-loop : tie.MeasureT-loop
 μ-loop depth l w f t r q₀ q = 8 - q
 
-tint-slot-requires : tie.Need-tint-slot-requires Inv-loop μ-loop
-tint-slot-requires c κs =
-    let s = c .before .before in
-    let x = s .pre .1 .1 0 (omega arith) (uses-none (s .args .f)) in
-    (x .source, x .part .within)
-
-agrees-requires : tie.Need-agrees-requires Inv-loop μ-loop
-agrees-requires c κs =
-    let s = c .before .before .before .before .before .before in
-    let q = c .before .loop-test .taken in
-    (s .pre .0, q, λ u. (s .pre .1 .0, s .pre .1 .1 (c .before .before .loop .q) q u))
-
 pub colour-spec : {M : Type 1} → statement M
 colour-spec =
     tie.close
     (tie.spec
     Inv-loop μ-loop (λ c. search needs)
-    tint-slot-requires
+    (λ c κs. let s = c .before .before in let x = s .pre .1 .1 0 (omega arith) (uses-none (s .args .f)) in (x .source, x .part .within))
     (λ c. below-more _ 0 (below-none _) (λ u. c .tint-slot .ensures))
     (λ c. search needs) (λ c. search needs) (λ c. search needs)
-    agrees-requires
+    (λ c κs.
+    let s = c .before .before .before .before .before .before in
+    let q = c .before .loop-test .taken in
+    (s .pre .0, q, λ u. (s .pre .1 .0, s .pre .1 .1 (c .before .before .loop .q) q u)))
     (λ c b e. absurd (mixed-none b e))
     (λ c. search needs) (λ c. search needs)
     (λ c. below-more _ _ (c .before .before .before .before .loop .inv) (c .before .agrees .ensures (not-false _ (c .if1 .left))))
