@@ -24,7 +24,7 @@ use Rattle.cells.proofs.Integers.{above, below}
 use Rattle.cells.proofs.Places.{along-lt}
 use Rattle.cells.proofs.Rules.{forth}
 use Rattle.cells.proofs.Table.{at}
-use Rattle.cells.proofs.Steps.{steps, stepped-lt, carried-lt}
+use Rattle.cells.proofs.Steps.{stepped-sum, carried-lt}
 
 -- ---- one axis
 
@@ -37,11 +37,11 @@ module _ (a : ℕ) (axis : a < 3) (k i d : ℕ) (small : d < 27) (z : ℤ) (digi
   pub inside : carried k i d ≡ 0 → along (2 ^ a) k i + above z ≡ along (2 ^ a) k (stepped k i d) + below z
   inside e =
       let g : forth (carried k i d / 3 ^ a % 3) * 2 ^ k ≡ 2 ^ k = rw (e, zero-div (3 ^ a)) (one-mul (2 ^ k)) in
-      omega (arith, steps a axis k i d small, one-more, g)
+      omega (arith, stepped-sum k i d small .1 a axis, one-more, g)
 
   -- a carry out of it along this axis: no cell of the level stands there
   pub outside : (carried k i d / 3 ^ a % 3 ≡ 0 → ⊥) → (j : ℕ) → along (2 ^ a) k i + above z ≡ along (2 ^ a) k j + below z → ⊥
-  outside h j e = go (carried k i d / 3 ^ a % 3) (omega arith) h (steps a axis k i d small)
+  outside h j e = go (carried k i d / 3 ^ a % 3) (omega arith) h (stepped-sum k i d small .1 a axis)
     where
       go : (g : ℕ) → g < 3 → (g ≡ 0 → ⊥) → along (2 ^ a) k i + forth (d / 3 ^ a % 3) + 2 ^ k ≡ along (2 ^ a) k (stepped k i d) + forth g * 2 ^ k + 1 → ⊥
       go zero l n s = n refl
@@ -73,7 +73,7 @@ module _ (D c : ℕ) (is : proper D c ≡ true) (step : ℕ → ℤ) (d : ℕ) (
   pub found : carried k i d ≡ 0 → Neighbour D c step (8 ^ k + stepped k i d)
   unfolding corner side
   found e =
-      let t = cell-at D k (stepped k i d) (level-le D c) (stepped-lt k i d (direction .small)) in
+      let t = cell-at D k (stepped k i d) (level-le D c) (stepped-sum k i d (direction .small) .0) in
       record {
         is-proper = t .is-proper;
         same-level = t .is-level;

@@ -2,46 +2,27 @@
 use mathlib.Core.Path.{_≡_, refl}
 use Prim.Native.Nat.{ℕ, zero, suc, _+_, _-_, _*_, _/_, _%_, _^_, _<_}
 use native.Mathlib.Omega.{arith}
-use Rattle.cells.specs.Place.{along}
+use Rattle.cells.specs.Place.{EachAxis, along}
 use Rattle.cells.specs.Payeur.{rule, stepped, carried}
 use Rattle.cells.proofs.Power.{pow2-pos, pow2-suc, pow8-suc}
-use Rattle.cells.proofs.Labelwise.{Labelwise, labels-lt, past, labels-along}
+use Rattle.cells.proofs.Labelwise.{past, labelwise}
 use Rattle.cells.proofs.Rules.{forth, turn, fair, rule-still}
 
--- ---- ranges
+-- ---- the labels that are left, and the direction of the carry to the last of them
 
--- the labels that are left, and the direction of the carry to the last of them
-record Step : Type 0 where
-  v : ℕ
-  d : ℕ
-  small : d < 27
+abbrev State : Type 0
+State = (v : ℕ) × (d : ℕ) × (d < 27)
 
-by-rules : Labelwise Step
-unfolding stepped
-by-rules = record {
-  label = λ s. rule (s .v % 8) (s .d) % 8;
-  next = λ s. record { v = s .v / 8; d = rule (s .v % 8) (s .d) / 8; small = omega (arith, fair (s .v % 8) (s .d) (omega arith) (s .small) .small) };
-  out = λ n s. stepped n (s .v) (s .d);
-  low = λ s. omega arith;
-  none = λ s. refl;
-  step = λ n s. refl;
-}
+abbrev next : State → State
+next (v, d, h) = (v / 8, rule (v % 8) d / 8, omega (arith, fair (v % 8) d (omega arith) h .small))
 
-abbrev at : (v d : ℕ) → d < 27 → Step
-at x y h = record { v = x; d = y; small = h }
-
-past-carried : (k : ℕ) (s : Step) → past by-rules k s .d ≡ carried k (s .v) (s .d)
-unfolding by-rules carried past
+past-carried : (k : ℕ) (s : State) → past next k s .1 ≡ carried k (s .0) (s .1)
+unfolding carried past
 past-carried zero s = refl
-past-carried (suc k) s = past-carried k (by-rules .next s)
+past-carried (suc k) s = past-carried k (next s)
 
 pub carried-lt : (k v d : ℕ) → d < 27 → carried k v d < 27
-unfolding by-rules
-carried-lt k v d h = rw (← past-carried k (at v d h)) (past by-rules k (at v d h) .small)
-
-pub stepped-lt : (k v d : ℕ) → d < 27 → stepped k v d < 8 ^ k
-unfolding by-rules stepped
-stepped-lt k v d h = labels-lt by-rules k (at v d h)
+carried-lt k v d h = rw (← past-carried k (v, d, h)) (past next k (v, d, h) .2)
 
 -- ---- no step
 
@@ -63,10 +44,15 @@ carried-still (suc k) v =
 
 -- ---- along axis a: the coordinate and the step are the new coordinate and the carry times 2 ^ k (one is added to each step)
 
-pub steps : (a : ℕ) → a < 3 → (k v d : ℕ) → d < 27
-    → along (2 ^ a) k v + forth (d / 3 ^ a % 3) + 2 ^ k ≡ along (2 ^ a) k (stepped k v d) + forth (carried k v d / 3 ^ a % 3) * 2 ^ k + 1
-unfolding by-rules along past stepped
-steps a ha k v d h =
-    let worth : ℕ → Step → ℕ = λ n s. along (2 ^ a) n (s .v) + forth (s .d / 3 ^ a % 3) + (2 ^ n - 1) in
-    let e = labels-along by-rules (2 ^ a) worth (λ n s. omega (arith, turn a (s .v % 8) (s .d) ha (omega arith) (s .small), pow2-suc n, pow2-pos n)) k (at v d h) in
-    rw (← past-carried k (at v d h)) (omega (arith, e, pow2-pos k))
+pub stepped-sum : (k v d : ℕ) → d < 27
+    → (stepped k v d < 8 ^ k) × EachAxis (λ a. along (2 ^ a) k v + forth (d / 3 ^ a % 3) + 2 ^ k ≡ along (2 ^ a) k (stepped k v d) + forth (carried k v d / 3 ^ a % 3) * 2 ^ k + 1)
+unfolding along stepped
+stepped-sum k v d h =
+    let x = labelwise {S = State}
+    (λ s. rule (s .0 % 8) (s .1) % 8)
+    next
+    (λ n s. stepped n (s .0) (s .1))
+    (λ a n s. along (2 ^ a) n (s .0) + forth (s .1 / 3 ^ a % 3) + (2 ^ n - 1))
+    (λ s. omega arith) (λ s. refl) (λ n s. refl)
+    (λ a l n s. omega (arith, turn a (s .0 % 8) (s .1) l (omega arith) (s .2), pow2-suc n, pow2-pos n)) k (v, d, h) in
+    (x .0, λ a l. rw (← past-carried k (v, d, h)) (omega (arith, x .1 a l, pow2-pos k)))

@@ -3,7 +3,7 @@
 use mathlib.Core.Path.{_≡_, refl}
 use mathlib.Core.Bool.{Bool, true, false}
 use mathlib.Core.List.{[]}
-use Prim.Native.Nat.{ℕ, suc, _+_, _*_, _/_, _%_, _^_, _<_}
+use Prim.Native.Nat.{ℕ, _+_, _*_, _/_, _%_, _^_, _<_}
 use native.Mathlib.Nat.{add-mul}
 use native.Mathlib.Omega.{arith}
 use lib.Dec.{eqb, ltb, eqb→eq, ltb→lt}
@@ -13,7 +13,7 @@ use Rattle.cells.specs.Labels.{flips, carries}
 use Rattle.cells.specs.AhujaNash.{table2, plus, added, twos, summed}
 use Rattle.cells.specs.Place.{EachAxis, along, Came}
 use Rattle.cells.proofs.Places.{each-axis, along-lt, same-voxel}
-use Rattle.cells.proofs.Labelwise.{Labelwise, labels-lt, labels-along}
+use Rattle.cells.proofs.Labelwise.{labelwise}
 use Rattle.cells.proofs.Table.{everywhere, at, at2, at3, at4}
 use Rattle.cells.proofs.Congruent.{congruent-equal, twos-congruent}
 use Rattle.cells.proofs.Displacements.{displaced-parts}
@@ -76,41 +76,30 @@ label-sum a v t c ha hv ht hc = record {
 -- ---- all labels
 
 -- the labels that are left, the bits that are added to them, and the carry to the last of them
-record Sum : Type 0 where
-  v : ℕ
-  t : ℕ
-  c : ℕ
-  small : c < 2
+abbrev Sum : Type 0
+Sum = (v : ℕ) × (t : ℕ) × (c : ℕ) × (c < 2)
 
 module _ (a : ℕ) (axis : a < 3) where
-  last-sum : (s : Sum) → LabelSum a (s .v % 8) (s .t % 2) (s .c)
-  last-sum s = label-sum a (s .v % 8) (s .t % 2) (s .c) axis (omega arith) (omega arith) (s .small)
-
-  by-table : Labelwise Sum
-  unfolding added
-  by-table = record {
-    label = λ s. new a (s .v % 8) (s .t % 2) (s .c);
-    next = λ s. record { v = s .v / 8; t = s .t / 2; c = out a (s .v % 8) (s .t % 2) (s .c); small = last-sum s .carry };
-    out = λ n s. added a n (s .v) (s .t) (s .c);
-    low = λ s. last-sum s .label;
-    none = λ s. refl;
-    step = λ n s. refl;
-  }
-
-  pub added-lt : (n v t c : ℕ) → c < 2 → added a n v t c < 8 ^ n
-  unfolding by-table added
-  added-lt n v t c small = labels-lt by-table n (record { v = v; t = t; c = c; small = small })
+  last-sum : (s : Sum) → LabelSum a (s .0 % 8) (s .1 % 2) (s .2)
+  last-sum (v, t, c, h) = label-sum a (v % 8) (t % 2) c axis (omega arith) (omega arith) h
 
   -- the displacement is added on its axis, less what is lost out of the first label, and the other coordinates stay
-  pub added-along : (b : ℕ) → b < 3 → (n v t c : ℕ) → c < 2 → (l : ℕ) × (along (2 ^ b) n (added a n v t c) + l * 2 ^ n ≡ along (2 ^ b) n v + on (eqb a b) (t + c))
-  unfolding by-table along added
-  added-along b h n v t c small =
-      (_, labels-along by-table (2 ^ b) (λ n s. along (2 ^ b) n (s .v) + on (eqb a b) (s .t + s .c)) (λ n s. go (eqb a b) n s (last-sum s .bits b h)) n (record { v = v; t = t; c = c; small = small }))
+  pub added-sum : (n v t c : ℕ) → c < 2
+      → (added a n v t c < 8 ^ n) × EachAxis (λ b. (l : ℕ) × (along (2 ^ b) n (added a n v t c) + l * 2 ^ n ≡ along (2 ^ b) n v + on (eqb a b) (t + c)))
+  unfolding along added
+  added-sum n v t c h =
+      let x = labelwise {S = Sum}
+      (λ s. new a (s .0 % 8) (s .1 % 2) (s .2))
+      (λ s. (s .0 / 8, s .1 / 2, out a (s .0 % 8) (s .1 % 2) (s .2), last-sum s .carry))
+      (λ n s. added a n (s .0) (s .1) (s .2))
+      (λ b n s. along (2 ^ b) n (s .0) + on (eqb a b) (s .1 + s .2))
+      (λ s. last-sum s .label) (λ s. refl) (λ n s. refl)
+      (λ b l n s. go (eqb a b) (along (2 ^ b) n (s .0 / 8)) _ _ (s .1) _ _ (last-sum s .bits b l)) n (v, t, c, h) in
+      (x .0, λ b l. (_, x .1 b l))
     where
-      go : (e : Bool) (n : ℕ) (s : Sum) → bit b (by-table .label s) + 2 * on e (by-table .next s .c) ≡ bit b (s .v % 8) + on e (s .t % 2 + s .c)
-          → along (2 ^ b) (suc n) (s .v) + on e (s .t + s .c) ≡ 2 * (along (2 ^ b) n (s .v / 8) + on e (s .t / 2 + by-table .next s .c)) + bit b (by-table .label s)
-      go true n s f = omega arith
-      go false n s f = omega arith
+      go : (s : Bool) (A B o t c N : ℕ) → N + 2 * on s o ≡ B + on s (t % 2 + c) → 2 * A + B + on s (t + c) ≡ 2 * (A + on s (t / 2 + o)) + N
+      go true A B o t c N f = omega arith
+      go false A B o t c N f = omega arith
 
 -- ---- THE LAW OF 000: where the displaced voxel lies in the root, adding the displacement by table 2, the last carry dropped, gives its path
 
@@ -122,16 +111,16 @@ module _ (D : ℕ) (d : ℕ → ℤ) (u v : ℕ) (came : Came D d u v) where
   summed-along : EachAxis (λ a. (l : ℕ) × (along (2 ^ a) D (summed 3 D d u) + l * 2 ^ D ≡ along (2 ^ a) D u + t a))
   unfolding summed
   summed-along a h =
-      let (l0, e0) = added-along 0 (omega arith) a h D u (t 0) 0 (omega arith) in
-      let (l1, e1) = added-along 1 (omega arith) a h D (summed 1 D d u) (t 1) 0 (omega arith) in
-      let (l2, e2) = added-along 2 (omega arith) a h D (summed 2 D d u) (t 2) 0 (omega arith) in
+      let (l0, e0) = added-sum 0 (omega arith) D u (t 0) 0 (omega arith) .1 a h in
+      let (l1, e1) = added-sum 1 (omega arith) D (summed 1 D d u) (t 1) 0 (omega arith) .1 a h in
+      let (l2, e2) = added-sum 2 (omega arith) D (summed 2 D d u) (t 2) 0 (omega arith) .1 a h in
       let all = each-axis (λ a. on (eqb 0 a) (t 0 + 0) + on (eqb 1 a) (t 1 + 0) + on (eqb 2 a) (t 2 + 0) ≡ t a) (omega arith) (omega arith) (omega arith) a h in
       (l0 + l1 + l2, omega (arith, e0, e1, e2, all, add-mul (l0 + l1) l2 (2 ^ D), add-mul l0 l1 (2 ^ D)))
 
   pub sum-came : summed 3 D d u ≡ v
   unfolding summed
   sum-came =
-      same-voxel D (summed 3 D d u) v (added-lt 2 (omega arith) D (summed 2 D d u) (t 2) 0 (omega arith)) (came .root)
+      same-voxel D (summed 3 D d u) v (added-sum 2 (omega arith) D (summed 2 D d u) (t 2) 0 (omega arith) .0) (came .root)
       (λ a h.
       let (l, e) = summed-along a h in
       let c = twos-congruent D (d a) in

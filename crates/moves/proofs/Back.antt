@@ -19,7 +19,7 @@ use Rattle.records.proofs.Lists.{black-in-root}
 use Rattle.records.proofs.Carrying.{Accepted}
 use Rattle.shifts.specs.Shift.{shift, shifted}
 use Rattle.shifts.proofs.Bits.{zero-bit}
-use Rattle.shifts.proofs.Adder.{shift-along, shift-lt, shifted-in}
+use Rattle.shifts.proofs.Adder.{shift-sum, shifted-in}
 use Rattle.moves.specs.Inner.{Splits, turned, back}
 use Rattle.moves.specs.declared.inner.Parted.{Parted}
 use Rattle.moves.proofs.Acceptance.{splits-above}
@@ -39,7 +39,7 @@ module _ (D : ℕ) (d : ℕ → ℤ) (q : ℕ → Parted) (split : EachAxis (λ 
   side-by-side : (u t v : ℕ) → Came D d u t → EachAxis (λ a. Congruent (2 ^ D) (along (2 ^ a) D u + along (2 ^ a) D v) (along (2 ^ a) D (shift D w 0 v) + along (2 ^ a) D t))
   unfolding turned
   side-by-side u t v came a h =
-      let (m, e) = shift-along a h D w 0 v in
+      let (m, e) = shift-sum D w 0 v .1 a h in
       let c = difference-congruent D (q a .down) (q a .up) in
       let s = splits-above (d a) (q a) (split a h) in
       let f = displaced-parts (d a) (along (2 ^ a) D u) (along (2 ^ a) D t) .0 (came .each a h) in
@@ -54,7 +54,7 @@ module _ (D : ℕ) (d : ℕ → ℤ) (q : ℕ → Parted) (split : EachAxis (λ 
   -- and what came to v is its source
   pub came-source : (v u : ℕ) → u < 8 ^ D → Came D d u v → shift D w 0 v ≡ u
   came-source v u h came =
-      same-voxel D (shift D w 0 v) u (shift-lt D w 0 v) h
+      same-voxel D (shift D w 0 v) u (shift-sum D w 0 v .0) h
       (λ a l. let c = side-by-side u v v came a l in congruent-equal (2 ^ D) _ _ (along-lt (2 ^ a) D (shift D w 0 v)) (along-lt (2 ^ a) D u) (record { j = c .k; k = c .j; same = omega (arith, c .same) }))
 
   -- ---- the list shifted back has the displaced voxels

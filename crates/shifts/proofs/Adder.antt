@@ -6,9 +6,9 @@ use native.Mathlib.Nat.{sub-zero, mod-one, zero-mul, pow-zero, div-one, pow-suc,
 use native.Mathlib.Omega.{arith}
 use lib.Arith.{mod-mul}
 use borrow.Author.Tests.{lt-ltb}
-use Rattle.cells.specs.Place.{along}
+use Rattle.cells.specs.Place.{EachAxis, along}
 use Rattle.cells.proofs.Power.{pow8-pos, pow8-suc}
-use Rattle.cells.proofs.Labelwise.{Labelwise, labels-lt, labels-along}
+use Rattle.cells.proofs.Labelwise.{labelwise}
 use Rattle.records.specs.Record.{black}
 use Rattle.shifts.specs.LabelSums.{sumLabel, carryLabel, Uses}
 use Rattle.shifts.specs.Shift.{shift, shifted, carry, cellOf, need}
@@ -16,34 +16,17 @@ use Rattle.shifts.proofs.Bits.{bit, same-label, zero-bit, sum-lt, sum-b
 
 -- ---- along an axis the shift is a sum, with what is lost out of the first label
 
--- the shift, the carry from below and the place
-record Sum : Type 0 where
-  w : ℕ
-  q : ℕ
-  v : ℕ
-
-by-labels : Labelwise Sum
-unfolding shift
-by-labels = record {
-  label = λ s. sumLabel (s .w % 8) (s .v % 8) (s .q);
-  next = λ s. record { w = s .w / 8; q = carryLabel (s .w % 8) (s .v % 8) (s .q); v = s .v / 8 };
-  out = λ n s. shift n (s .w) (s .q) (s .v);
-  low = λ s. sum-lt (s .w % 8) (s .v % 8) (s .q);
-  none = λ s. refl;
-  step = λ n s. refl;
-}
-
-pub shift-lt : (n w q v : ℕ) → shift n w q v < 8 ^ n
-unfolding by-labels shift
-shift-lt n w q v = labels-lt by-labels n (record { w = w; q = q; v = v })
-
-pub shift-along : (a : ℕ) → a < 3 → (n w q v : ℕ) → (l : ℕ) × (along (2 ^ a) n (shift n w q v) + l * 2 ^ n ≡ along (2 ^ a) n v + along (2 ^ a) n w + bit a q)
-unfolding by-labels along shift
-shift-along a h n w q v = (
-  _,
-  labels-along by-labels (2 ^ a) (λ n s. along (2 ^ a) n (s .v) + along (2 ^ a) n (s .w) + bit a (s .q))
-      (λ n s. omega (arith, sum-bit (s .w % 8) (s .v % 8) (s .q) a h, carry-bit (s .w % 8) (s .v % 8) (s .q) a h)) n (record { w = w; q = q; v = v }),
-)
+pub shift-sum : (n w q v : ℕ) → (shift n w q v < 8 ^ n) × EachAxis (λ a. (l : ℕ) × (along (2 ^ a) n (shift n w q v) + l * 2 ^ n ≡ along (2 ^ a) n v + along (2 ^ a) n w + bit a q))
+unfolding shift along
+shift-sum n w q v =
+    let x = labelwise {S = ℕ × ℕ × ℕ}
+    (λ (w, q, v). sumLabel (w % 8) (v % 8) q)
+    (λ (w, q, v). (w / 8, carryLabel (w % 8) (v % 8) q, v / 8))
+    (λ n (w, q, v). shift n w q v)
+    (λ a n (w, q, v). along (2 ^ a) n v + along (2 ^ a) n w + bit a q)
+    (λ (w, q, v). sum-lt (w % 8) (v % 8) q) (λ s. refl) (λ n s. refl)
+    (λ a h n (w, q, v). omega (arith, sum-bit (w % 8) (v % 8) q a h, carry-bit (w % 8) (v % 8) q a h)) n (w, q, v) in
+    (x .0, λ a h. (_, x .1 a h))
 
 -- within the root a voxel has its source's colour, past it none is black
 pub shifted-in : (D : ℕ) (l : List ℕ) (w v : ℕ) → v < 8 ^ D → shifted D l w v ≡ black D l (shift D w 0 v)

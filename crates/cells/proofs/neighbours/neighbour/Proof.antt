@@ -23,7 +23,7 @@ use Rattle.cells.proofs.Bools.{clash}
 use Rattle.cells.proofs.Decisions.{passes, deep-enough}
 use Rattle.cells.proofs.Words.{wordBits, codes-fit, signed-axes}
 use Rattle.cells.proofs.Carries.{Progress, begins, ended, turned, room, finished}
-use Rattle.cells.proofs.Steps.{stepped-lt}
+use Rattle.cells.proofs.Steps.{stepped-sum}
 use Rattle.cells.proofs.NeighbourLaws.{found, missing}
 use Rattle.cells.proofs.neighbours.neighbour.Statement.{statement}
 use Rattle.cells.proofs.neighbours.neighbour.Tie as tie
@@ -97,7 +97,7 @@ module _ (l : tie.At-loop Inv-loop μ-loop) where
   worked h = finished (l .loop .inv) (omega arith)
 
   fits : l .loop .carry ≤ 0 → l .loop .rest * l .loop .weight + l .loop .done < 2 ^ wordBits
-  fits h = omega (arith, worked h, small q, stepped-lt (k q) (i q) (d q) (directed q .small))
+  fits h = omega (arith, worked h, small q, stepped-sum (k q) (i q) (d q) (directed q .small) .0)
 
 loop-holds : tie.Need-loop-holds Inv-loop μ-loop
 loop-holds c =
