@@ -17,6 +17,14 @@ pub record Prefix {A : Type 0} (P : ℕ → A → Type 0) (d : A) (n : ℕ) (r :
 pub prefix-none : {A : Type 0} (P : ℕ → A → Type 0) (d : A) (n : ℕ) (r : List A) → length r ≡ n → Prefix P d n r 0
 prefix-none P d n r h = record { turns = omega arith; size = h; each = λ i p. absurd (omega arith) }
 
+pub prefix-over : {A : Type 0} (P : ℕ → A → Type 0) (d : A) (n : ℕ) (r : List A) (q : ℕ) → q < n → P q (getD r q d) → Prefix P d n r q → Prefix P d n r (q + 1)
+prefix-over P d n r q h p f =
+    record {
+      turns = omega arith;
+      size = f .size;
+      each = λ i g. ⊎-elim (λ (a : q ≤ i). let e : q ≡ i = omega arith in subst (λ (j : ℕ). P j (getD r j d)) e p) (f .each i) (le-or-lt q i);
+    }
+
 pub prefix-more : {A : Type 0} (P : ℕ → A → Type 0) (d : A) (n : ℕ) (r : List A) (q : ℕ) (x : A) → q < n → P q x → Prefix P d n r q → Prefix P d n (set r q x) (q + 1)
 prefix-more P d n r q x h p f =
     record {

@@ -13,17 +13,6 @@ ghost use Rattle.shifts.specs.LabelSums.{sumLabel, carryLabel, Uses};
 ghost use Rattle.records.specs.Slot.{Of, OfCell, SlotTint, slotAt};
 ghost use Rattle.shifts.specs.Descent.{Slots, OfCells, Divided, SlotsTint, partAt};
 
-// The parts of slot q, where it is needed; else nothing is said.
-pub fn split_needed(depth: u32, l: &[u32], k: u32, f: u32, q: u32, s: Slot) -> [Slot; 8]
-    requires { ⌜ (f < 8) × (q < 8) × (Uses f q → OfCell depth (now l) (suc k) s) ⌝ }
-    ensures { λ r. ⌜ (Uses f q → (b : ℕ) → Of depth (now (l .entry)) (suc k) b s → (m : ℕ) → m < 8 → Of depth (now (l .entry)) k (8 * b + m) (slotAt r m)) ⌝ }
-{
-    if within(f, q) {
-        return split_slot(depth, l, k, s);
-    }
-    [s; 8]
-}
-
 // The parts of the slots that are needed.
 pub fn split(depth: u32, l: &[u32], k: u32, f: u32, t: [Slot; 8]) -> [[Slot; 8]; 8]
     requires { ⌜ (f < 8) × OfCells depth (now l) (suc k) f t ⌝ }
@@ -32,8 +21,10 @@ pub fn split(depth: u32, l: &[u32], k: u32, f: u32, t: [Slot; 8]) -> [[Slot; 8];
     let mut r = [t; 8];
     let mut q: usize = 0;
     while q < 8 {
-        let s = t[q];
-        r[q] = split_needed(depth, l, k, f, q as u32, s);
+        if within(f, q as u32) {
+            let s = t[q];
+            r[q] = split_slot(depth, l, k, s);
+        }
         q += 1;
     }
     r
