@@ -81,14 +81,9 @@ pub page-spec : {M : Type 1} → statement M
 page-spec =
     tie.close
     (tie.spec
-    (λ c κs. search needs)
-    (λ c κs. search needs)
-    (λ c. search needs)
-    (λ c. search needs)
+    (λ c κs. search needs) (λ c κs. search needs) (λ c. search needs) (λ c. search needs)
     returns
     (λ c. room c)
     (λ c. let e = c .before in sym (length-take-le (d e .read .result .answer .place) (d e .read .last .1 .0) (room e)))
-    (λ c κs. search needs)
-    (λ c. search needs)
-    (λ c. search needs)
+    (λ c κs. search needs) (λ c. search needs) (λ c. search needs)
     returns-2)

@@ -72,15 +72,12 @@ list-text-spec =
     (tie.spec
     (λ c κs. search needs)
     (λ c. let v = c .before in list-refused (t v) (o v) (s v .args .depth) (l v) _ (v .volume .result) (v .volume .ensures) (c .if1 .taken))
-    (λ c. search needs)
-    (λ c. search needs)
+    (λ c. search needs) (λ c. search needs)
     (λ c κs. let k = good (c .before) in (k .shallow, k .good .ordered, k .few))
-    (λ c κs. search needs)
-    (λ c. search needs)
+    (λ c κs. search needs) (λ c. search needs)
     returns-2
     (λ c. search needs)
     (λ c. sym (length-take-le _ _ (c .before .if2 .left)))
     (λ c κs. let k = good (c .before .before .before .before .before .before) in (k .shallow, k .good .ordered, k .few))
-    (λ c κs. search needs)
-    (λ c. search needs)
+    (λ c κs. search needs) (λ c. search needs)
     returns-3)

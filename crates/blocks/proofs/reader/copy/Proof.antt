@@ -58,14 +58,12 @@ pub copy-spec : {M : Type 1} → statement M
 copy-spec =
     tie.close
     (tie.spec
-    Inv-loop
-    μ-loop
+    Inv-loop μ-loop
     loop-holds
     code-at-requires
     (λ c. search needs)
     (λ c. let h = c .before .before in omega (arith, same h, s h .pre .2, c .before .loop-test .taken))
-    (λ c. search needs)
-    (λ c. search needs)
+    (λ c. search needs) (λ c. search needs)
     loop-again
     (λ c. same (c .before))
     returns)

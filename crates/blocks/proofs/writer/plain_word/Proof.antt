@@ -47,15 +47,10 @@ plain-word-spec =
     (λ c. search needs)
     returns-2
     returns-3
-    (λ c. search needs)
-    (λ c. search needs)
-    (λ c. search needs)
+    (λ c. search needs) (λ c. search needs) (λ c. search needs)
     returns-4
     (λ c. search needs)
     returns-5
-    (λ c. search needs)
-    (λ c. search needs)
-    (λ c. search needs)
-    (λ c. search needs)
+    (λ c. search needs) (λ c. search needs) (λ c. search needs) (λ c. search needs)
     (λ c. sym (is-code (c .before .before)))
     (λ c. let e = c .before in sym (is-code e ∙ List·getD-eq-default (s e .args .list .now) 0 (c .if6 .left))))

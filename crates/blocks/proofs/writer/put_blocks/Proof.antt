@@ -51,12 +51,10 @@ pub put-blocks-spec : {M : Type 1} → statement M
 put-blocks-spec =
     tie.close
     (tie.spec
-    Inv-loop
-    μ-loop
+    Inv-loop μ-loop
     loop-holds
     put-block-requires
-    (λ c. search needs)
-    (λ c. search needs)
+    (λ c. search needs) (λ c. search needs)
     (λ c. let h = c .before .before .before .before .before in (search needs, c .before .before .put-block .ensures (s h .args .bytes .now) (h .loop .inv .1)))
     (λ c. same (c .before))
     returns)

@@ -78,6 +78,5 @@ write-spec =
     (λ c κs. search needs)
     returns-2
     (λ c κs. let q = c .before .before in (is-blocks q, few q, c .before .if2 .left))
-    (λ c κs. search needs)
-    (λ c. search needs)
+    (λ c κs. search needs) (λ c. search needs)
     returns-3)

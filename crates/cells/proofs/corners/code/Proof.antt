@@ -70,8 +70,7 @@ code-spec =
     (tie.spec
     (λ c κs. search needs)
     (λ c. inl (_, (c .before .if1 .taken, refl), c .refusal .ensures))
-    (λ c κs. search needs)
-    (λ c κs. search needs)
+    (λ c κs. search needs) (λ c κs. search needs)
     returns-2
     (λ c. grid c .deep)
     (λ c κs. omega (arith, deep c))
@@ -81,6 +80,5 @@ code-spec =
     (λ c. some-side (c .before .before) _ (c .before .pow2 .ensures))
     number-of-requires
     add-code
-    (λ c. search needs)
-    (λ c κs. search needs)
+    (λ c. search needs) (λ c κs. search needs)
     returns-3)

@@ -60,8 +60,7 @@ is-corner-spec =
     tie.close
     (tie.spec
     returns
-    (λ c κs. search needs)
-    (λ c κs. search needs)
+    (λ c κs. search needs) (λ c κs. search needs)
     (λ c κs. some-side c)
     returns-2
     (λ c κs. some-side (p c))

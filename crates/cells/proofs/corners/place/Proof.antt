@@ -47,8 +47,7 @@ place-spec =
     (tie.spec
     (λ c κs. search needs)
     (λ c. inl (_, (c .before .if1 .taken, refl), c .no-corner .ensures))
-    (λ c κs. search needs)
-    (λ c κs. search needs)
+    (λ c κs. search needs) (λ c κs. search needs)
     returns-2
     (λ c κs. let q = is-proper c in (omega arith, deep c, q))
     (λ c κs. (omega arith, deep (c .before), is-proper (c .before)))

@@ -136,15 +136,12 @@ pub neighbour-spec : {M : Type 1} → statement M
 neighbour-spec =
     tie.close
     (tie.spec
-    Inv-loop
-    μ-loop
+    Inv-loop μ-loop
     (λ c κs. search needs)
     (λ c. inl (_, (c .before .if1 .taken, refl), c .refusal .ensures))
-    (λ c κs. search needs)
-    (λ c κs. search needs)
+    (λ c κs. search needs) (λ c κs. search needs)
     returns-2
-    (λ c κs. search needs)
-    (λ c κs. search needs)
+    (λ c κs. search needs) (λ c κs. search needs)
     (λ c. let x = c .before .before in past x _ (inl (_, (directed x .bad (c .before .if3 .taken), refl), c .refusal3 .ensures)))
     loop-holds
     (λ c κs. search needs)

@@ -55,8 +55,7 @@ pub flush-spec : {M : Type 1} → statement M
 flush-spec =
     tie.close
     (tie.spec
-    Inv-loop
-    μ-loop
+    Inv-loop μ-loop
     (λ c κs. c .before .pre .0)
     (λ c. let h = c .before .before .pre .1 in record { fed = λ P. fed-none _ P _ _ _ h; ready = h; kept = refl })
     (λ c κs. c .loop-test .taken)

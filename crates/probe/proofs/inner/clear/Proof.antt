@@ -32,8 +32,7 @@ pub clear-spec : {M : Type 1} → statement M
 clear-spec =
     tie.close
     (tie.spec
-    Inv-loop
-    μ-loop
+    Inv-loop μ-loop
     (λ c. (omega arith, omega arith, fill-none _ 0))
     (λ c. omega arith)
     (λ c. omega arith)

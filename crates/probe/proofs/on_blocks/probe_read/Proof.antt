@@ -11,9 +11,5 @@ probe-read-spec =
     tie.close
     (tie.spec
     (λ c. inl (omega arith, (refl, refl)))
-    (λ c κs. search needs)
-    (λ c. search needs)
-    (λ c κs. search needs)
-    (λ c. search needs)
-    (λ c. search needs)
+    (λ c κs. search needs) (λ c. search needs) (λ c κs. search needs) (λ c. search needs) (λ c. search needs)
     (λ c. let t = c .before .before in let s = t .before .before .before .before .before .before in inr (omega arith, (s .read .result, s .read .ensures, t .tell .ensures))))

@@ -39,8 +39,7 @@ pub copy-spec : {M : Type 1} → statement M
 copy-spec =
     tie.close
     (tie.spec
-    Inv-loop
-    μ-loop
+    Inv-loop μ-loop
     (λ c. (omega arith, omega arith, omega arith, copied-none (c .args .from .now) (c .args .to .now)))
     (λ c. omega arith)
     returns

@@ -39,15 +39,12 @@ pub judge-spec : {M : Type 1} → statement M
 judge-spec =
     tie.close
     (tie.spec
-    Inv-loop
-    μ-loop
+    Inv-loop μ-loop
     (λ c κs. search needs)
     (λ c. (search needs, c .begin .ensures _ _))
-    (λ c. search needs)
-    (λ c. search needs)
+    (λ c. search needs) (λ c. search needs)
     (λ c κs. let t = c .before in (s t .pre, (s t .args .list .now, t .before .loop .i, t .before .loop .inv .1)))
     (λ c. stays (more (c .before)) (c .if1 .taken) (omega (arith, p (c .before) .loop-test .taken)))
-    (λ c. search needs)
-    (λ c. search needs)
+    (λ c. search needs) (λ c. search needs)
     (λ c. (omega (arith, p (c .before) .loop-test .taken), more (c .before)))
     returns-2)

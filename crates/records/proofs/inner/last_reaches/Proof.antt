@@ -44,9 +44,7 @@ last-reaches-spec =
     tie.close
     (tie.spec
     returns
-    (λ c. search needs)
-    (λ c. search needs)
-    (λ c. search needs)
+    (λ c. search needs) (λ c. search needs) (λ c. search needs)
     (λ c κs. let u = c .before in (s u .pre .0, is u))
     (λ c κs. let u = c .before .before in (s u .pre .0, is u))
     add-result

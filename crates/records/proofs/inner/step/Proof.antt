@@ -97,14 +97,12 @@ step-spec =
     tie.close
     (tie.spec
     (λ c. λ l i w e. stays w (c .if1 .taken) (omega arith))
-    (λ c κs. search needs)
-    (λ c κs. search needs)
+    (λ c κs. search needs) (λ c κs. search needs)
     returns-2
     (λ c κs. (s (u c) .pre .0, is c))
     (λ c κs. search needs)
     returns-3
-    (λ c κs. search needs)
-    (λ c κs. search needs)
+    (λ c κs. search needs) (λ c κs. search needs)
     returns-4
     (λ c κs. let q = p (c .before .before) in (s (u q) .pre .0, is q))
     (λ c. let k = kept (v c) in omega (arith, k .is-passed, k .count, k .within, codes-fit (D (v c)) (s (v c) .pre .0)))

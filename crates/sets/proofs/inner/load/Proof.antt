@@ -38,8 +38,7 @@ load-spec =
     (tie.spec
     (λ c κs. search needs)
     (λ c v b. points-end (c .before .pow8 .ensures) (c .if1 .taken) b)
-    (λ c. search needs)
-    (λ c. search needs)
+    (λ c. search needs) (λ c. search needs)
     (λ c κs. let p = c .before .before .before .before .pre in (p .0, head-proper (c .before .if1 .left) (p .1 .1)))
     (λ c. omega (arith, numbers c))
     (λ c. omega (arith, numbers c))

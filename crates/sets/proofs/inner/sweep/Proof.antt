@@ -84,8 +84,7 @@ pub sweep-spec : {M : Type 1} → statement M
 sweep-spec =
     tie.close
     (tie.spec
-    Inv-loop
-    μ-loop
+    Inv-loop μ-loop
     (λ c κs. c .before .before .before .pre .0)
     (λ c κs. let p = c .before .before .before .before .pre in (p .0, (0, behind-none (p .1))))
     (λ c κs. let p = c .before .before .before .before .before .pre in (p .0, (0, behind-none (p .2))))

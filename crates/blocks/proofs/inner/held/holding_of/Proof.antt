@@ -82,12 +82,10 @@ pub holding-of-spec : {M : Type 1} → statement M
 holding-of-spec =
     tie.close
     (tie.spec
-    (λ c κs. search needs)
-    (λ c κs. search needs)
+    (λ c κs. search needs) (λ c κs. search needs)
     returns
     (λ c κs. let s = checked c .0 in omega (arith, some-block (b c) s, all-blocks (b c) s))
     judge-stored-requires
-    (λ c κs. search needs)
-    (λ c κs. search needs)
+    (λ c κs. search needs) (λ c κs. search needs)
     (λ c. holds-nothing _ _ _ (c .nothing-held2 .ensures) (c .before .if2 .taken) (of-list (c .before .before)))
     returns-3)

@@ -54,14 +54,12 @@ pub judge-stored-spec : {M : Type 1} → statement M
 judge-stored-spec =
     tie.close
     (tie.spec
-    Inv-loop
-    μ-loop
+    Inv-loop μ-loop
     (λ c κs. search needs)
     (λ c. (search needs, c .begin .ensures _ _))
     (λ c κs. code-within (start c .args .bytes .now) (start c .pre .0) (c .before .loop .i) (there c))
     step-requires
     (λ c. stays (more (c .before)) (c .if1 .taken) (omega (arith, there (p (c .before)))))
-    (λ c. search needs)
-    (λ c. search needs)
+    (λ c. search needs) (λ c. search needs)
     (λ c. (omega (arith, p (c .before) .loop-test .taken), more (c .before)))
     returns-2)

@@ -49,13 +49,11 @@ pub first-unsound-spec : {M : Type 1} → statement M
 first-unsound-spec =
     tie.close
     (tie.spec
-    Inv-loop
-    μ-loop
+    Inv-loop μ-loop
     (λ c κs. let s = c .before in omega (arith, whole-blocks _ (s .pre .0), s .pre .1))
     (λ c. (search needs, c .word-at .ensures, λ j h. absurd (omega arith)))
     (λ c κs. let s = c .before .before .before .before in omega (arith, whole-blocks _ (s .pre .0), s .pre .1))
     returns
-    (λ c. search needs)
-    (λ c. search needs)
+    (λ c. search needs) (λ c. search needs)
     loop-again
     returns-2)

@@ -20,13 +20,9 @@ pub sum-up-spec : {M : Type 1} → statement M
 sum-up-spec =
     tie.close
     (tie.spec
-    Inv-loop
-    μ-loop
+    Inv-loop μ-loop
     (λ c κs. search needs)
     (λ c. (search needs, c .no-sums .ensures _))
-    (λ c κs. search needs)
-    (λ c κs. search needs)
-    (λ c. search needs)
-    (λ c. search needs)
+    (λ c κs. search needs) (λ c κs. search needs) (λ c. search needs) (λ c. search needs)
     loop-again
     (λ c. let h = c .before in h .loop .inv .1 ∙ ap (check _) (omega arith)))

@@ -28,9 +28,7 @@ pub cell-from-spec : {M : Type 1} → statement M
 cell-from-spec =
     tie.close
     (tie.spec
-    (λ c κs. search needs)
-    (λ c. search needs)
-    (λ c. search needs)
+    (λ c κs. search needs) (λ c. search needs) (λ c. search needs)
     first-requires
     (λ c. search needs)
     mul-result

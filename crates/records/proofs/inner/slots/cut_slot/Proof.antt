@@ -81,17 +81,12 @@ pub cut-slot-spec : {M : Type 1} → statement M
 cut-slot-spec =
     tie.close
     (tie.spec
-    Inv-loop
-    μ-loop
-    (λ c κs. search needs)
-    (λ c. search needs)
+    Inv-loop μ-loop
+    (λ c κs. search needs) (λ c. search needs)
     (λ c κs. rw (add-one (c .before .before .args .k)) (c .before .before .pre))
     loop-holds
     add-v
     first-from-requires
-    (λ c. search needs)
-    (λ c. search needs)
-    (λ c. search needs)
-    (λ c. search needs)
+    (λ c. search needs) (λ c. search needs) (λ c. search needs) (λ c. search needs)
     loop-again
     (λ c b y m h. c .before .loop .inv b y .filled .each m (omega (arith, c .loop-test .left))))

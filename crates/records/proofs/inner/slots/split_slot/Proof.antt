@@ -29,12 +29,7 @@ pub split-slot-spec : {M : Type 1} → statement M
 split-slot-spec =
     tie.close
     (tie.spec
-    (λ c. search needs)
-    (λ c κs. search needs)
-    (λ c κs. search needs)
-    (λ c. search needs)
-    (λ c. search needs)
-    (λ c. search needs)
+    (λ c. search needs) (λ c κs. search needs) (λ c κs. search needs) (λ c. search needs) (λ c. search needs) (λ c. search needs)
     (λ c κs. (s (c .before .before) .pre, told (c .before .before) (c .enum-told3 .given .1)))
     (λ c. repeated (c .before .before) false (c .enum-told .given .1))
     (λ c. repeated (c .before .before) true (c .enum-told2 .given .1))

@@ -62,14 +62,11 @@ pub put-paths-spec : {M : Type 1} → statement M
 put-paths-spec =
     tie.close
     (tie.spec
-    Inv-loop
-    μ-loop
+    Inv-loop μ-loop
     loop-holds
-    (λ c. search needs)
-    (λ c. search needs)
+    (λ c. search needs) (λ c. search needs)
     put-path-requires
-    (λ c. search needs)
-    (λ c. search needs)
+    (λ c. search needs) (λ c. search needs)
     loop-again
     (λ c. let h = c .before in let (D, shallow, o, room) = h .before .before .before .pre in put-length (h .loop .inv .2 D o))
     returns)

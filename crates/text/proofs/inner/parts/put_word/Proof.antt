@@ -50,13 +50,11 @@ pub put-word-spec : {M : Type 1} → statement M
 put-word-spec =
     tie.close
     (tie.spec
-    Inv-loop
-    μ-loop
+    Inv-loop μ-loop
     (λ c. (search needs, put-none))
     (λ c. search needs)
     (λ c κs. let h = c .before .before .before in omega (arith, is-place h, s h .pre, c .before .before .loop-test .taken))
-    (λ c. search needs)
-    (λ c. search needs)
+    (λ c. search needs) (λ c. search needs)
     loop-again
     (λ c. put-length (c .before .loop .inv .1))
     returns)
