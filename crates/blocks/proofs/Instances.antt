@@ -1,7 +1,6 @@
 -- For each public call of this crate an answer that fits its definition at a named input, and one that does not; and document 01's stored examples, computed.
 -- Assumes nothing.
 use mathlib.Core.Path.{_≡_, refl, sym, ap}
-use mathlib.Core.Bool.{true}
 use mathlib.Core.Logic.{inl, inr}
 use mathlib.Core.List.{List, [], _∷_, _++_}
 use Prim.Native.Nat.{ℕ, _^_}
@@ -16,7 +15,7 @@ use Rattle.records.specs.Count.{count}
 use Rattle.records.proofs.First.{good-passes}
 use Rattle.records.proofs.CallLaws.{checks}
 use Rattle.records.proofs.Instances.{check-holds}
-use Rattle.blocks.specs.Block.{check, blocks, whole, depthOf, codes}
+use Rattle.blocks.specs.Block.{check, whole, depthOf, codes}
 use Rattle.blocks.specs.Inner.{Sound}
 use Rattle.blocks.specs.File.{plain, fileOf}
 use Rattle.blocks.specs.Calls.{BlockCheckOf, StoredVolumeOf, ReadOf, WriteOf}

@@ -2,25 +2,23 @@
 -- Assumes nothing.
 use mathlib.Core.Path.{_≡_, refl, sym, subst₂}
 use mathlib.Core.Logic.{inr}
-use mathlib.Core.Bool.{true, false≢true}
+use mathlib.Core.Bool.{true}
 use Prim.Native.Nat.{ℕ, zero, suc, _-_, _*_, _^_, _<_, _≤_}
 use native.Mathlib.Nat.{mul-mod-left, zero-mul}
 use native.Mathlib.Omega.{arith}
 use borrow.Author.Tests.{le-leb, lt-ltb}
 use lib.IntN.{ℤ, pos, negsuc, negℤ, _*ℤ_}
 use Rattle.cells.specs.Cell.{level, proper, index, side}
-use Rattle.cells.specs.Place.{allAxes, along, corner, Displaced}
+use Rattle.cells.specs.Place.{along, corner, Displaced}
 use Rattle.cells.specs.Answer.{given, deepest}
 use Rattle.cells.specs.Corners.{onGrid, isCorner, CodeOf}
 use Rattle.cells.specs.Neighbour.{IsDirection, Neighbour}
 use Rattle.cells.proofs.Bools.{clash}
 use Rattle.cells.proofs.Decisions.{passes, deep-enough}
 use Rattle.cells.proofs.Cells.{level-le, level-is}
-use Rattle.cells.proofs.Bools.{both-true}
 use Rattle.cells.proofs.CornerLaws.{side-pos, corner-lt}
 use Rattle.cells.proofs.Integers.{above, below}
 use Rattle.cells.proofs.Displacements.{displaced→, displaced-back}
-use Rattle.cells.proofs.Places.{all-pass}
 
 -- ---- the corner of a cell is a proper corner, and gives the cell's code
 

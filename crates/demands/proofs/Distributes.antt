@@ -1,7 +1,6 @@
 -- Demand 3: if two lists can both take a move, then moving and then joining, intersecting or subtracting gives the same list as doing that first and then
 -- moving; that their join, intersection or difference can take the move is part of it. Of any call that carries a list; the move is one. Assumes nothing.
 use mathlib.Core.Logic.{_⊎_, inl, inr}
-use mathlib.Core.List.{List}
 use Prim.Native.Nat.{ℕ}
 use Rattle.sets.specs.declared.Op.{Op}
 use Rattle.sets.specs.declared.Op.the-variants.{Join, Intersect, Subtract}

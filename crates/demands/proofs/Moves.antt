@@ -1,6 +1,6 @@
 -- Demand 3: if a first move is accepted, a second is accepted exactly when the single move by their sum is, and ends in the same list.
 -- A voxel that came by the one and then by the other came by the sum, and the other way round through the voxel where the first left it. Assumes nothing.
-use mathlib.Core.Path.{_≡_, refl, sym, ap, _∙_, subst}
+use mathlib.Core.Path.{_≡_, refl, sym, ap, _∙_}
 use mathlib.Core.Logic.{_↔_, inl, inr}
 use mathlib.Core.List.{List}
 use Prim.Native.Nat.{ℕ, _^_, _<_}

@@ -1,8 +1,8 @@
 -- The impostors of document 01, "How tight the statements are", for the calls on stored files: what each would leave at a named input does not fit the call's
 -- definition. Each follows from one right answer and the law that no second answer fits. Assumes nothing.
-use mathlib.Core.Path.{_≡_, refl, sym, ap, _∙_}
+use mathlib.Core.Path.{_≡_, refl, ap, _∙_}
 use mathlib.Core.List.{List, [], _∷_, _++_}
-use Prim.Native.Nat.{ℕ, _*_, _<_}
+use Prim.Native.Nat.{ℕ, _<_}
 use native.Mathlib.Omega.{arith}
 use lib.ListN.{length, getD, drop, replicate, length-replicate, List·getD-append}
 use Rattle.cells.specs.Answer.{answer, given}

@@ -6,7 +6,7 @@ use Prim.Native.Nat.{ℕ}
 use native.Mathlib.Omega.{arith}
 use lib.ListN.{getD}
 use Rattle.records.proofs.First.{good-passes}
-use Rattle.blocks.specs.Block.{blocks, whole}
+use Rattle.blocks.specs.Block.{whole}
 use Rattle.blocks.specs.File.{fileOf}
 use Rattle.blocks.proofs.Sound.{sound-passes}
 use Rattle.blocks.proofs.Instances.{good, one-sound, one-depth, one-codes}

@@ -1,5 +1,5 @@
 -- Why the listing's buffers always suffice, and what `read`, `list_text` and `refused_text` then give; and no second text fits a file. Assumes nothing.
-use mathlib.Core.Path.{_≡_, refl, ap}
+use mathlib.Core.Path.{_≡_, ap}
 use mathlib.Core.List.{List, [], _∷_}
 use mathlib.Core.Logic.{inl, inr}
 use Prim.Native.Nat.{ℕ, _+_, _*_, _^_, _≤_}

@@ -10,7 +10,7 @@ use lib.ListN.{length}
 use Rattle.cells.specs.Answer.{answer, given}
 use Rattle.cells.specs.declared.Answer.{Answer}
 use Rattle.cells.proofs.Firsts.{stops-first, stops-never}
-use Rattle.blocks.specs.Block.{blockBytes, blocks, whole}
+use Rattle.blocks.specs.Block.{blockBytes, whole}
 use Rattle.blocks.specs.Calls.{BlockCheckOf}
 use Rattle.blocks.specs.Inner.{Sound}
 use Rattle.blocks.proofs.Sound.{no-block, a-rest, is-whole, sound-passes}
