@@ -36,9 +36,6 @@ loop-holds : tie.Need-loop-holds Inv-loop μ-loop
 unfolding tabulated
 loop-holds c = (search needs, refl)
 
-code-at-requires : tie.Need-code-at-requires Inv-loop μ-loop
-code-at-requires c κs = let h = c .before in code-within (s h .args .bytes .now) (s h .pre .0) (h .loop .i) (omega (arith, s h .pre .1, c .loop-test .taken))
-
 loop-again : tie.Need-loop-again Inv-loop μ-loop
 loop-again c =
     let h = c .before .before in
@@ -60,7 +57,7 @@ copy-spec =
     (tie.spec
     Inv-loop μ-loop
     loop-holds
-    code-at-requires
+    (λ c κs. let h = c .before in code-within (s h .args .bytes .now) (s h .pre .0) (h .loop .i) (omega (arith, s h .pre .1, c .loop-test .taken)))
     (λ c. search needs)
     (λ c. let h = c .before .before in omega (arith, same h, s h .pre .2, c .before .loop-test .taken))
     (λ c. search needs) (λ c. search needs)

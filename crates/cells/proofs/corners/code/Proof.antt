@@ -41,9 +41,6 @@ returns-2 c =
     let p = c .before .before in
     inr (passes (deep-enough (p .before .if1 .left)), inl (_, (sym (p .is-corner .ensures) ∙ not-true _ (c .before .if2 .taken), refl), c .refusal2 .ensures))
 
-number-of-requires : tie.Need-number-of-requires
-number-of-requires c κs = omega (arith, grid (c .before .before) .deep, deep (c .before .before))
-
 add-code : tie.Need-add-code
 add-code c =
     let e = c .before .before .before in
@@ -78,7 +75,7 @@ code-spec =
     (λ c. some-side (c .before .before) _ (c .before .pow2 .ensures))
     (λ c. some-side (c .before .before) _ (c .before .pow2 .ensures))
     (λ c. some-side (c .before .before) _ (c .before .pow2 .ensures))
-    number-of-requires
+    (λ c κs. omega (arith, grid (c .before .before) .deep, deep (c .before .before)))
     add-code
     (λ c. search needs) (λ c κs. search needs)
     returns-3)

@@ -43,12 +43,6 @@ module _ (c : tie.Else2) where
   on-x : grid p (s p .args .x) ≡ true
   on-x = tested p _ (c .before .on-grid .ensures) ∙ not-false _ (c .if2 .left)
 
-returns-2 : tie.Need-returns-2
-returns-2 c = let g = c .before in corner (g .before) _ (rw (tested (g .before) _ (g .on-grid .ensures) ∙ not-true _ (c .if2 .taken)))
-
-returns-3 : tie.Need-returns-3
-returns-3 c = let g = c .before in let e = g .before in corner (p e) _ (rw (on-x e, tested (p e) _ (g .on-grid2 .ensures) ∙ not-true _ (c .if3 .taken)))
-
 returns-4 : tie.Need-returns-4
 returns-4 c =
     let g = c .before .before in
@@ -62,8 +56,8 @@ is-corner-spec =
     returns
     (λ c κs. search needs) (λ c κs. search needs)
     (λ c κs. some-side c)
-    returns-2
+    (λ c. let g = c .before in corner (g .before) _ (rw (tested (g .before) _ (g .on-grid .ensures) ∙ not-true _ (c .if2 .taken))))
     (λ c κs. some-side (p c))
-    returns-3
+    (λ c. let g = c .before in let e = g .before in corner (p e) _ (rw (on-x e, tested (p e) _ (g .on-grid2 .ensures) ∙ not-true _ (c .if3 .taken))))
     (λ c κs. some-side (p (c .before .before)))
     returns-4)

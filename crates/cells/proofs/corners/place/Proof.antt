@@ -27,9 +27,6 @@ returns-2 c =
     let p = c .before .before in
     inr (passes (deep-enough (p .before .if1 .left)), inl (_, (sym (p .is-proper .ensures) ∙ not-true _ (c .before .if2 .taken), refl), c .no-corner2 .ensures))
 
-level-of-requires : tie.Need-level-of-requires
-level-of-requires c κs = (deep (c .before .before .before), is-proper (c .before .before .before))
-
 returns-3 : tie.Need-returns-3
 returns-3 c =
     let e = c .before .before .before .before .before in
@@ -52,6 +49,6 @@ place-spec =
     (λ c κs. let q = is-proper c in (omega arith, deep c, q))
     (λ c κs. (omega arith, deep (c .before), is-proper (c .before)))
     (λ c κs. (omega arith, deep (c .before .before), is-proper (c .before .before)))
-    level-of-requires
+    (λ c κs. (deep (c .before .before .before), is-proper (c .before .before .before)))
     (λ c κs. search needs)
     returns-3)

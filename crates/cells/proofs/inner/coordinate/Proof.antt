@@ -29,16 +29,13 @@ returns : tie.Need-returns
 unfolding index side corner
 returns c = rw (c .pow2 .ensures, c .before .axis .ensures, c .before .before .pow8 .ensures, c .before .before .before .level-of .ensures)
 
-sub-axis : tie.Need-sub-axis
-sub-axis c = let l = c .before in rw (c .pow8 .ensures, l .level-of .ensures) (proper-bounds (D l) (s l .args .code) (s l .pre .2) .0)
-
 pub coordinate-spec : {M : Type 1} → statement M
 coordinate-spec =
     tie.close
     (tie.spec
     (λ c κs. (c .pre .1, c .pre .2))
     (λ c κs. omega (arith, low c))
-    sub-axis
+    (λ c. let l = c .before in rw (c .pow8 .ensures, l .level-of .ensures) (proper-bounds (D l) (s l .args .code) (s l .pre .2) .0))
     (λ c κs. let l = c .before in (omega (arith, low l), s l .pre .0))
     (λ c. low (c .before .before) .0)
     (λ c κs. omega (arith, low (c .before .before)))

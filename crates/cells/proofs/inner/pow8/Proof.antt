@@ -5,8 +5,5 @@ use Rattle.cells.proofs.Words.{wordBits, codes-fit, shifted}
 use Rattle.cells.proofs.inner.pow8.Statement.{statement}
 use Rattle.cells.proofs.inner.pow8.Tie as tie
 
-returns : tie.Need-returns
-returns c = shifted wordBits (c .args .n) (omega (arith, codes-fit (c .args .n) (c .pre)))
-
 pub pow8-spec : {M : Type 1} → statement M
-pow8-spec = tie.close (tie.spec (λ c. search needs) (λ c. search needs) returns)
+pow8-spec = tie.close (tie.spec (λ c. search needs) (λ c. search needs) (λ c. shifted wordBits (c .args .n) (omega (arith, codes-fit (c .args .n) (c .pre)))))

@@ -23,14 +23,5 @@ shifted-span D c h p =
     ap (λ (n : ℕ). (1 * 2 ^ n) % 2 ^ wordBits) (omega (arith, zeros D c h p))
     ∙ shifted wordBits (D - level D c) (omega (arith, codes-fit (D - level D c) (omega arith)))
 
-add-result : tie.Need-add-result
-add-result c = omega (arith, zeros (c .args .depth) (c .args .code) (c .pre .0) (c .pre .1))
-
-sub-result : tie.Need-sub-result
-sub-result c = omega (arith, zeros (c .args .depth) (c .args .code) (c .pre .0) (c .pre .1))
-
-shl-result : tie.Need-shl-result
-shl-result c = omega (arith, zeros (c .args .depth) (c .args .code) (c .pre .0) (c .pre .1))
-
 pub width-spec : {M : Type 1} → statement M
-width-spec = tie.close (tie.spec (λ c. search needs) add-result sub-result shl-result (λ c. shifted-span (c .args .depth) (c .args .code) (c .pre .0) (c .pre .1)))
+width-spec = tie.close (tie.spec (λ c. search needs) (λ c. omega (arith, zeros (c .args .depth) (c .args .code) (c .pre .0) (c .pre .1))) (λ c. omega (arith, zeros (c .args .depth) (c .args .code) (c .pre .0) (c .pre .1))) (λ c. omega (arith, zeros (c .args .depth) (c .args .code) (c .pre .0) (c .pre .1))) (λ c. shifted-span (c .args .depth) (c .args .code) (c .pre .0) (c .pre .1)))

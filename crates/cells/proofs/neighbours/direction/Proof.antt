@@ -31,15 +31,6 @@ module _ (c : tie.After-digit3) where
   abbrev steps : ℕ → ℤ
   steps = axes (s .args .dx) (s .args .dy) (s .args .dz)
 
-returns : tie.Need-returns
-returns c = let q = c .before in bad-step (steps q) 0 (omega arith) (omega (arith, at-x q))
-
-returns-2 : tie.Need-returns-2
-returns-2 c = let q = c .before .before in bad-step (steps q) 1 (omega arith) (omega (arith, at-y q))
-
-returns-3 : tie.Need-returns-3
-returns-3 c = let q = c .before .before .before in bad-step (steps q) 2 (omega arith) (omega (arith, at-z q))
-
 returns-4 : tie.Need-returns-4
 returns-4 c =
     let q = c .before .before .before in
@@ -50,8 +41,8 @@ direction-spec =
     tie.close
     (tie.spec
     (λ c κs. search needs) (λ c κs. search needs) (λ c κs. search needs)
-    returns
-    returns-2
-    returns-3
+    (λ c. let q = c .before in bad-step (steps q) 0 (omega arith) (omega (arith, at-x q)))
+    (λ c. let q = c .before .before in bad-step (steps q) 1 (omega arith) (omega (arith, at-y q)))
+    (λ c. let q = c .before .before .before in bad-step (steps q) 2 (omega arith) (omega (arith, at-z q)))
     (λ c. search needs) (λ c. search needs) (λ c. search needs) (λ c. search needs)
     returns-4)

@@ -30,9 +30,6 @@ Inv-loop p to room w₀ w = Fits p to w
 abbrev μ-loop : tie.MeasureT-loop
 μ-loop p to room w₀ w = to - w
 
-loop-holds : tie.Need-loop-holds Inv-loop μ-loop
-loop-holds c = record { k = 0; q = c .args .p; wide = refl; even = sym (mul-one (c .args .p)); fits = omega arith }
-
 returns : tie.Need-returns Inv-loop μ-loop
 returns c =
     let a = c .before .before .before .args in
@@ -64,7 +61,7 @@ fit-spec =
     (tie.spec
     Inv-loop μ-loop
     (λ c. search needs)
-    loop-holds
+    (λ c. record { k = 0; q = c .args .p; wide = refl; even = sym (mul-one (c .args .p)); fits = omega arith })
     (λ c. omega arith)
     (λ c. omega (arith, some (c .before .loop .inv)))
     returns

@@ -52,9 +52,6 @@ module _ (c : tie.Else1) where
   next : (r : Answer) → Decided alone (left t) (Told t) r → LookupOf (D t) (l t) (s t .args .x) (s t .args .y) (s t .args .z) r
   next r d = opening-passes (checks (D t) (l t)) (t .check .result) (t .check .ensures) alone (left t) (Told t) r none d
 
-returns : tie.Need-returns
-returns c = let t = c .before in opening-refuses (checks (D t) (l t)) (t .check .result) (t .check .ensures) alone (left t) (Told t) (c .if1 .taken)
-
 returns-2 : tie.Need-returns-2
 returns-2 c =
     let p = c .before .before in
@@ -85,7 +82,7 @@ lookup-spec =
     tie.close
     (tie.spec
     (λ c κs. search needs)
-    returns
+    (λ c. let t = c .before in opening-refuses (checks (D t) (l t)) (t .check .result) (t .check .ensures) alone (left t) (Told t) (c .if1 .taken))
     (λ c κs. known c .shallow)
     (λ c κs. search needs)
     returns-2

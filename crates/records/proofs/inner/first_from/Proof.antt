@@ -23,9 +23,6 @@ Inv-loop depth l v lo hi a₀ b₀ a b = Between depth l v lo hi a b
 abbrev μ-loop : tie.MeasureT-loop
 μ-loop depth l v lo hi a₀ b₀ a b = b - a
 
-loop-holds : tie.Need-loop-holds Inv-loop μ-loop
-loop-holds c = record { from = omega arith; order = omega arith; to = omega arith; below = λ i p q. absurd (omega arith); above = λ i p q. absurd (omega arith) }
-
 -- ---- the leaf in the middle
 
 module _ (c : tie.In-loop Inv-loop μ-loop) where
@@ -87,7 +84,7 @@ first-from-spec =
     tie.close
     (tie.spec
     Inv-loop μ-loop
-    loop-holds
+    (λ c. record { from = omega arith; order = omega arith; to = omega arith; below = λ i p q. absurd (omega arith); above = λ i p q. absurd (omega arith) })
     (λ c. search needs) (λ c. search needs) (λ c. search needs) (λ c. search needs)
     first-requires
     (λ c. search needs) (λ c. search needs)

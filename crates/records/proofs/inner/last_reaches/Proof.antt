@@ -12,9 +12,6 @@ use Rattle.records.proofs.Search.{proper-at, reaches-none, reaches-is}
 use Rattle.records.proofs.inner.last_reaches.Statement.{statement}
 use Rattle.records.proofs.inner.last_reaches.Tie as tie
 
-returns : tie.Need-returns
-returns c = let a = c .before .before .args in sym (reaches-none (a .depth) (a .l .now) (a .at) (a .v) (c .if1 .taken))
-
 -- ---- the leaf before the place
 
 module _ (c : tie.Else1) where
@@ -43,7 +40,7 @@ pub last-reaches-spec : {M : Type 1} → statement M
 last-reaches-spec =
     tie.close
     (tie.spec
-    returns
+    (λ c. let a = c .before .before .args in sym (reaches-none (a .depth) (a .l .now) (a .at) (a .v) (c .if1 .taken)))
     (λ c. search needs) (λ c. search needs) (λ c. search needs)
     (λ c κs. let u = c .before in (s u .pre .0, is u))
     (λ c κs. let u = c .before .before in (s u .pre .0, is u))

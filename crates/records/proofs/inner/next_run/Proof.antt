@@ -10,9 +10,6 @@ use Rattle.records.proofs.Rows.{next-first, next-more, next-none}
 use Rattle.records.proofs.inner.next_run.Statement.{statement}
 use Rattle.records.proofs.inner.next_run.Tie as tie
 
-returns : tie.Need-returns
-returns c = let s = c .before .args in omega (arith, next-first (s .last) (s .run) (s .code) (c .if1 .taken), c .if1 .taken)
-
 returns-2 : tie.Need-returns-2
 returns-2 c =
     let s = c .before .before .args in
@@ -29,4 +26,4 @@ returns-4 c =
     sym (next-none (s .last) (s .run) (s .code) (c .before .before .if1 .left) (rw (ne-eqb (s .code - 1) (s .last) (c .if3 .left)) (and-false (leb 1 (s .run)))))
 
 pub next-run-spec : {M : Type 1} → statement M
-next-run-spec = tie.close (tie.spec returns returns-2 (λ c. search needs) (λ c. search needs) returns-3 returns-4)
+next-run-spec = tie.close (tie.spec (λ c. let s = c .before .args in omega (arith, next-first (s .last) (s .run) (s .code) (c .if1 .taken), c .if1 .taken)) returns-2 (λ c. search needs) (λ c. search needs) returns-3 returns-4)

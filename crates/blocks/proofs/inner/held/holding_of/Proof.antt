@@ -62,9 +62,6 @@ module _ (c : tie.After-told) where
   of-list : JudgedOf (b e) (c .told .result)
   of-list = judged (c .told .ensures (depthOf (b e)) (codes (b e)) walked)
 
-judge-stored-requires : tie.Need-judge-stored-requires
-judge-stored-requires c κs = let k = checked (c .before) in (k .0, c .word-at .ensures, ap (λ (a : Answer). a .place) (k .1))
-
 returns-3 : tie.Need-returns-3
 returns-3 c =
     let q = c .before in
@@ -85,7 +82,7 @@ holding-of-spec =
     (λ c κs. search needs) (λ c κs. search needs)
     returns
     (λ c κs. let s = checked c .0 in omega (arith, some-block (b c) s, all-blocks (b c) s))
-    judge-stored-requires
+    (λ c κs. let k = checked (c .before) in (k .0, c .word-at .ensures, ap (λ (a : Answer). a .place) (k .1)))
     (λ c κs. search needs) (λ c κs. search needs)
     (λ c. holds-nothing _ _ _ (c .nothing-held2 .ensures) (c .before .if2 .taken) (of-list (c .before .before)))
     returns-3)

@@ -13,9 +13,6 @@ Inv-loop bytes i sums₀ w₀ sums w = (w ≤ 126) × (sums ≡ check (word byte
 abbrev μ-loop : tie.MeasureT-loop
 μ-loop bytes i sums₀ w₀ sums w = 126 - w
 
-loop-again : tie.Need-loop-again Inv-loop μ-loop
-loop-again c = let h = c .before .before .before in (search needs, c .took .ensures _ (h .loop .w) (h .loop .inv .1) (c .before .word-at .ensures))
-
 pub sum-up-spec : {M : Type 1} → statement M
 sum-up-spec =
     tie.close
@@ -24,5 +21,5 @@ sum-up-spec =
     (λ c κs. search needs)
     (λ c. (search needs, c .no-sums .ensures _))
     (λ c κs. search needs) (λ c κs. search needs) (λ c. search needs) (λ c. search needs)
-    loop-again
+    (λ c. let h = c .before .before .before in (search needs, c .took .ensures _ (h .loop .w) (h .loop .inv .1) (c .before .word-at .ensures)))
     (λ c. let h = c .before in h .loop .inv .1 ∙ ap (check _) (omega arith)))

@@ -9,9 +9,6 @@ use Rattle.records.proofs.SlotLaws.{at-cell, slot-proper, slot-cell}
 use Rattle.records.proofs.inner.slots.cell_from.Statement.{statement}
 use Rattle.records.proofs.inner.slots.cell_from.Tie as tie
 
-first-requires : tie.Need-first-requires
-first-requires c κs = let p = c .before .before .before .pre in (p .0 .source .deep, slot-proper (p .0) (p .1) _ (p .1 .0))
-
 mul-result : tie.Need-mul-result
 mul-result c =
     let s = c .before .before .before .before in
@@ -29,7 +26,7 @@ cell-from-spec =
     tie.close
     (tie.spec
     (λ c κs. search needs) (λ c. search needs) (λ c. search needs)
-    first-requires
+    (λ c κs. let p = c .before .before .before .pre in (p .0 .source .deep, slot-proper (p .0) (p .1) _ (p .1 .0)))
     (λ c. search needs)
     mul-result
     returns)

@@ -58,9 +58,6 @@ add-v c =
     let child = inside m (a .k) (c .loop-test .taken) in
     record { fits = omega (arith, known c .place, edge (x .cell) m (a .k), child, slot-low x t _ (omega arith) (t .0), top, pow8-small (a .depth) (x .source .deep), pow8-small (suc (a .k)) (omega (arith, x .level, x .source .deep)), c .before .before .before .pow8 .ensures) }
 
-first-from-requires : tie.Need-first-from-requires Inv-loop μ-loop
-first-from-requires c κs = let x = start c .pre .0 in record { shallow = x .source .deep; ordered = x .source .ordered; rising = known c .cut .high; within = x .part .within }
-
 loop-again : tie.Need-loop-again Inv-loop μ-loop
 loop-again c = λ b y.
     let s = start (c .before) in
@@ -86,7 +83,7 @@ cut-slot-spec =
     (λ c κs. rw (add-one (c .before .before .args .k)) (c .before .before .pre))
     loop-holds
     add-v
-    first-from-requires
+    (λ c κs. let x = start c .pre .0 in record { shallow = x .source .deep; ordered = x .source .ordered; rising = known c .cut .high; within = x .part .within })
     (λ c. search needs) (λ c. search needs) (λ c. search needs) (λ c. search needs)
     loop-again
     (λ c b y m h. c .before .loop .inv b y .filled .each m (omega (arith, c .loop-test .left))))

@@ -39,9 +39,6 @@ module _ (c : tie.In-loop Inv-loop μ-loop) where
   proper-code : (D : ℕ) → Ordered D 0 (s .args .list .now) → proper D (getD (s .args .list .now) (c .before .loop .i) 0) ≡ true
   proper-code D o = member D 0 _ _ o (member-at (s .args .list .now) (c .before .loop .i) (c .loop-test .taken)) .0
 
-put-path-requires : tie.Need-put-path-requires Inv-loop μ-loop
-put-path-requires c κs = let i = c .before .before in let (D, shallow, o, room) = s i .pre in (D, shallow, proper-code i D o, omega (arith, i .loop-test .taken))
-
 loop-again : tie.Need-loop-again Inv-loop μ-loop
 loop-again c =
     let p = c .before .before in
@@ -55,9 +52,6 @@ loop-again c =
           (put-append (i .before .loop .inv .2 D o) (p .put-path .ensures .0 D (proper-code i D o))),
     )
 
-returns : tie.Need-returns Inv-loop μ-loop
-returns c = λ D o. let h = c .before in put-as (ap (pathLines D) (take-all (h .loop .i) (h .before .before .before .args .list .now) (c .loop-test .left))) (h .loop .inv .2 D o)
-
 pub put-paths-spec : {M : Type 1} → statement M
 put-paths-spec =
     tie.close
@@ -65,8 +59,8 @@ put-paths-spec =
     Inv-loop μ-loop
     loop-holds
     (λ c. search needs) (λ c. search needs)
-    put-path-requires
+    (λ c κs. let i = c .before .before in let (D, shallow, o, room) = s i .pre in (D, shallow, proper-code i D o, omega (arith, i .loop-test .taken)))
     (λ c. search needs) (λ c. search needs)
     loop-again
     (λ c. let h = c .before in let (D, shallow, o, room) = h .before .before .before .pre in put-length (h .loop .inv .2 D o))
-    returns)
+    (λ c. λ D o. let h = c .before in put-as (ap (pathLines D) (take-all (h .loop .i) (h .before .before .before .args .list .now) (c .loop-test .left))) (h .loop .inv .2 D o)))
