@@ -37,12 +37,6 @@ module _ (c : tie.Else1) where
 
 -- ---- the needs
 
-returns : tie.Need-returns
-returns c =
-    let t = c .before in
-    let a = t .before .before .before .args in
-    opening-refuses (checks (a .depth) (a .list .now)) (t .check .result) (t .check .ensures) (keeping (a .out .now)) (moveTests (a .m)) (ByVoxels (a .depth) (a .list .now) (a .m) (a .out .now)) (c .if1 .taken)
-
 -- whole voxels: no test of their own
 returns-2 : tie.Need-returns-2
 returns-2 c =
@@ -64,7 +58,10 @@ move-list-spec =
     tie.close
     (tie.spec
     (λ c κs. search needs)
-    returns
+    (λ c.
+    let t = c .before in
+    let a = t .before .before .before .args in
+    opening-refuses (checks (a .depth) (a .list .now)) (t .check .result) (t .check .ensures) (keeping (a .out .now)) (moveTests (a .m)) (ByVoxels (a .depth) (a .list .now) (a .m) (a .out .now)) (c .if1 .taken))
     (λ c. search needs)
     (λ c κs. let k = pass (c .before .before .before .before) in (k .shallow, k .good .ordered))
     (λ c. search needs)

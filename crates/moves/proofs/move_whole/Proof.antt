@@ -81,13 +81,6 @@ returns c =
     let F = first-strays (a .depth) (d f) (p f) (split f) (a .list .now) (s f .pre .1) (stops-first (f .first-stray .ensures) (t .if1 .taken)) in
     inl (_, (f .first-stray .result, F, refl), ap (keeping (a .out .now)) (c .refusal .ensures))
 
-returns-2 : tie.Need-returns-2
-returns-2 c =
-    let counted = c .before .before .before .before in
-    let shift = counted .before .before in
-    let e = shift .before in
-    next e (crowded _ _ _ (voxels e (shift .backwards .result) (shift .backwards .ensures)) (counted .shift-list .ensures) (c .refusal2 .ensures) (c .before .if2 .taken))
-
 returns-3 : tie.Need-returns-3
 returns-3 c =
     let room = c .before .before .before .before .before in
@@ -103,6 +96,10 @@ move-whole-spec =
     (λ c κs. search needs) (λ c κs. search needs) (λ c κs. search needs) (λ c κs. search needs) (λ c κs. search needs)
     returns
     (λ c κs. search needs) (λ c. search needs) (λ c. search needs) (λ c κs. search needs) (λ c κs. search needs) (λ c. search needs)
-    returns-2
+    (λ c.
+    let counted = c .before .before .before .before in
+    let shift = counted .before .before in
+    let e = shift .before in
+    next e (crowded _ _ _ (voxels e (shift .backwards .result) (shift .backwards .ensures)) (counted .shift-list .ensures) (c .refusal2 .ensures) (c .before .if2 .taken)))
     (λ c κs. search needs) (λ c κs. search needs) (λ c. search needs)
     returns-3)

@@ -79,18 +79,6 @@ module _ (c : tie.After-judged2) where
   second-good : c .judged2 .result .number ≡ 0 → Checked (D at-first) (b at-first) (c .judged2 .result .place)
   second-good z = opening-known (judges (D at-first) (b at-first) 2 (at-first .before .if1 .left)) _ (c .judged2 .ensures) z
 
-combine-requires : tie.Need-combine-requires
-combine-requires c κs =
-    let k = c .before .before in
-    let z : k .judged2 .result .number ≡ 0 = search needs in
-    (at-first k .before .if1 .left, first-good (at-first k) (none k) .good .ordered, second-good k z .good .ordered)
-
-returns-4 : tie.Need-returns-4
-returns-4 c =
-    let k = c .before .before .before .before .before in
-    let z : k .judged2 .result .number ≡ 0 = search needs in
-    second-passes k z (c .before .before .combine .ensures)
-
 pub set-of-spec : {M : Type 1} → statement M
 set-of-spec =
     tie.close
@@ -101,6 +89,12 @@ set-of-spec =
     (λ c. first-refuses (c .before) (c .if2 .taken))
     (λ c κs. search needs)
     (λ c. second-refuses (c .before) (c .if3 .taken))
-    combine-requires
+    (λ c κs.
+    let k = c .before .before in
+    let z : k .judged2 .result .number ≡ 0 = search needs in
+    (at-first k .before .if1 .left, first-good (at-first k) (none k) .good .ordered, second-good k z .good .ordered))
     (λ c. search needs)
-    returns-4)
+    (λ c.
+    let k = c .before .before .before .before .before in
+    let z : k .judged2 .result .number ≡ 0 = search needs in
+    second-passes k z (c .before .before .combine .ensures)))

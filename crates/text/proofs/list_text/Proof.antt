@@ -50,12 +50,6 @@ module _ (c : tie.Else1) where
   told : {r : Answer} {after : List ℕ} → WritesOf (t v) (o v) r after → TextOf (s v .args .depth) (l v) (o v) r after
   told w = list-written (t v) (o v) (s v .args .depth) (l v) _ (v .volume .result) (v .volume .ensures) none _ _ w
 
-returns-2 : tie.Need-returns-2
-returns-2 c =
-    let p = c .before .before .before .before in
-    let e = p .before .before in
-    told e (text-short (t (v e)) (o (v e)) _ (p .put-listing .result) (listed e (p .put-listing .ensures)) (c .before .if2 .taken) _ (c .refusal .ensures))
-
 returns-3 : tie.Need-returns-3
 returns-3 c =
     let q = c .before .before .before in
@@ -75,7 +69,10 @@ list-text-spec =
     (λ c. search needs) (λ c. search needs)
     (λ c κs. let k = good (c .before) in (k .shallow, k .good .ordered, k .few))
     (λ c κs. search needs) (λ c. search needs)
-    returns-2
+    (λ c.
+    let p = c .before .before .before .before in
+    let e = p .before .before in
+    told e (text-short (t (v e)) (o (v e)) _ (p .put-listing .result) (listed e (p .put-listing .ensures)) (c .before .if2 .taken) _ (c .refusal .ensures)))
     (λ c. search needs)
     (λ c. sym (length-take-le _ _ (c .before .if2 .left)))
     (λ c κs. let k = good (c .before .before .before .before .before .before) in (k .shallow, k .good .ordered, k .few))

@@ -7,12 +7,6 @@ use Rattle.text.proofs.CallLaws.{text-short, text-stands}
 use Rattle.text.proofs.refused_text.Statement.{statement}
 use Rattle.text.proofs.refused_text.Tie as tie
 
-returns : tie.Need-returns
-returns c =
-    let p = c .before .before .before .before in
-    let a = p .before .before .before .args in
-    text-short (refusedText (a .number) (a .place)) (a .bytes .now) _ (p .put-refused .result) (p .put-refused .ensures) (c .before .if1 .taken) _ (c .refusal .ensures)
-
 returns-2 : tie.Need-returns-2
 returns-2 c =
     let q = c .before .before .before in
@@ -27,7 +21,10 @@ refused-text-spec =
     tie.close
     (tie.spec
     (λ c. search needs) (λ c. search needs) (λ c κs. search needs) (λ c κs. search needs) (λ c. search needs)
-    returns
+    (λ c.
+    let p = c .before .before .before .before in
+    let a = p .before .before .before .args in
+    text-short (refusedText (a .number) (a .place)) (a .bytes .now) _ (p .put-refused .result) (p .put-refused .ensures) (c .before .if1 .taken) _ (c .refusal .ensures))
     (λ c. search needs)
     (λ c. sym (length-take-le _ _ (c .before .if1 .left)))
     (λ c κs. search needs) (λ c κs. search needs) (λ c. search needs)

@@ -21,17 +21,6 @@ use Rattle.blocks.proofs.checker.check_blocks.Tie as tie
 bad-length : (b : List ℕ) (r : Answer) → whole b ≡ false → r ≡ answer 9 (length b / blockBytes) 0 → BlockCheckOf b r
 bad-length b r w e = inl (_, inl (w, refl), e)
 
-returns : tie.Need-returns
-returns c =
-    let b = c .before .before .before .args .bytes .now in
-    let z : length b / 512 ≡ 0 = c .before .if1 .taken in
-    bad-length b _ (no-block b z) (c .refusal .ensures ∙ ap (λ (n : ℕ). answer 9 n 0) (sym z))
-
-returns-2 : tie.Need-returns-2
-returns-2 c =
-    let b = c .before .before .before .before .args .bytes .now in
-    bad-length b _ (a-rest b (c .before .before .if1 .left) (c .before .if2 .taken)) (c .refusal2 .ensures)
-
 -- ---- a whole file
 
 module _ (c : tie.Else2) where
@@ -40,13 +29,6 @@ module _ (c : tie.Else2) where
 
   whole-file : whole b ≡ true
   whole-file = let z : length b % 512 ≡ 0 = search needs in is-whole b (c .before .if1 .left) z
-
-returns-3 : tie.Need-returns-3
-returns-3 c =
-    let f = c .before .before in
-    let stops = f .first-unsound .ensures in
-    let below : f .first-unsound .result < length (b (f .before)) / 512 = omega (arith, stops .within, c .before .if3 .taken) in
-    inl (_, inr (whole-file (f .before), (_, stops-first stops below, refl)), c .refusal3 .ensures)
 
 module _ (c : tie.Else3) where
   is-sound : Sound (b (c .before .before))
@@ -60,12 +42,21 @@ check-blocks-spec =
     tie.close
     (tie.spec
     (λ c κs. search needs)
-    returns
+    (λ c.
+    let b = c .before .before .before .args .bytes .now in
+    let z : length b / 512 ≡ 0 = c .before .if1 .taken in
+    bad-length b _ (no-block b z) (c .refusal .ensures ∙ ap (λ (n : ℕ). answer 9 n 0) (sym z)))
     (λ c κs. search needs)
-    returns-2
+    (λ c.
+    let b = c .before .before .before .before .args .bytes .now in
+    bad-length b _ (a-rest b (c .before .before .if1 .left) (c .before .if2 .taken)) (c .refusal2 .ensures))
     (λ c κs. (whole-file c, refl))
     (λ c κs. search needs)
-    returns-3
+    (λ c.
+    let f = c .before .before in
+    let stops = f .first-unsound .ensures in
+    let below : f .first-unsound .result < length (b (f .before)) / 512 = omega (arith, stops .within, c .before .if3 .taken) in
+    inl (_, inr (whole-file (f .before), (_, stops-first stops below, refl)), c .refusal3 .ensures))
     (λ c κs. (is-sound c, refl))
     (λ c κs. search needs)
     (λ c. inr (sound-passes _ (is-sound (c .before .before)), c .success .ensures ∙ ap given (c .before .leaves-of .ensures))))

@@ -36,12 +36,6 @@ loop-holds : tie.Need-loop-holds Inv-loop μ-loop
 unfolding tabulated
 loop-holds c = (search needs, refl)
 
-loop-again : tie.Need-loop-again Inv-loop μ-loop
-loop-again c =
-    let h = c .before .before in
-    let i = h .loop .i in
-    (search needs, ap (λ (l : List ℕ). set l i (c .code-at .result)) (h .loop .inv .1) ∙ sets-more (code (s h .args .bytes .now)) (s h .args .out .now) i (i + 1) (c .code-at .result) refl (c .code-at .ensures))
-
 returns : tie.Need-returns Inv-loop μ-loop
 unfolding codes
 returns c =
@@ -61,6 +55,9 @@ copy-spec =
     (λ c. search needs)
     (λ c. let h = c .before .before in omega (arith, same h, s h .pre .2, c .before .loop-test .taken))
     (λ c. search needs) (λ c. search needs)
-    loop-again
+    (λ c.
+    let h = c .before .before in
+    let i = h .loop .i in
+    (search needs, ap (λ (l : List ℕ). set l i (c .code-at .result)) (h .loop .inv .1) ∙ sets-more (code (s h .args .bytes .now)) (s h .args .out .now) i (i + 1) (c .code-at .result) refl (c .code-at .ensures)))
     (λ c. same (c .before))
     returns)

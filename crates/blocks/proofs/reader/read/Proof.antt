@@ -35,11 +35,6 @@ module _ (c : tie.After-answer) where
   abbrev Done : Reading × List ℕ → Type 0
   Done t = t ≡ (record { answer = given (length (codes b)); depth = depthOf b }, stands (codes b) o)
 
-returns : tie.Need-returns
-returns c =
-    let t = c .before .before in
-    rw (c .unread .ensures) (opening-refuses (judges-file (b t)) (r t) (t .before .holding-of .ensures .tells) (unread (o t)) (TooShort (length (codes (b t))) (o t) ∷ []) (Done t) (c .before .if1 .taken))
-
 -- ---- a good file
 
 module _ (c : tie.Else1) where
@@ -58,11 +53,6 @@ module _ (c : tie.Else1) where
   told : {x : Reading} {after : List ℕ} → Decided (unread (o t)) (TooShort (length (codes (b t))) (o t) ∷ []) (Done t) (x, after) → ReadOf (b t) (o t) x after
   told d = opening-passes (judges-file (b t)) (r t) (t .before .holding-of .ensures .tells) (unread (o t)) (TooShort (length (codes (b t))) (o t) ∷ []) (Done t) _ none d
 
-returns-2 : tie.Need-returns-2
-returns-2 c =
-    let u = c .before .before .before in
-    rw (c .unread2 .ensures, c .before .refusal .ensures, there u .is-length) (told u (inl (_, (omega (arith, there u .is-length, c .before .before .if2 .taken), refl), refl)))
-
 returns-3 : tie.Need-returns-3
 returns-3 c =
     let y = c .before .before in
@@ -77,9 +67,13 @@ read-spec =
     tie.close
     (tie.spec
     (λ c κs. search needs) (λ c κs. search needs)
-    returns
+    (λ c.
+    let t = c .before .before in
+    rw (c .unread .ensures) (opening-refuses (judges-file (b t)) (r t) (t .before .holding-of .ensures .tells) (unread (o t)) (TooShort (length (codes (b t))) (o t) ∷ []) (Done t) (c .before .if1 .taken)))
     (λ c κs. search needs) (λ c κs. search needs)
-    returns-2
+    (λ c.
+    let u = c .before .before .before in
+    rw (c .unread2 .ensures, c .before .refusal .ensures, there u .is-length) (told u (inl (_, (omega (arith, there u .is-length, c .before .before .if2 .taken), refl), refl))))
     (λ c κs. let u = c .before .before in (there u .is-sound, there u .is-length, c .before .if2 .left))
     (λ c. search needs)
     returns-3)

@@ -29,11 +29,6 @@ Inv-loop depth list n i bytes₀ sums₀ w₀ bytes sums w =
 abbrev μ-loop : tie.MeasureT-loop
 μ-loop depth list n i bytes₀ sums₀ w₀ bytes sums w = 126 - w
 
-loop-holds : tie.Need-loop-holds Inv-loop μ-loop
-loop-holds c =
-    let a = c .before .before .before .args in
-    (search needs, refl, c .no-sums .ensures _, λ o e. e ∙ ap (begun (a .depth) (a .list .now) o) (omega arith))
-
 loop-again : tie.Need-loop-again Inv-loop μ-loop
 loop-again c =
     let p = c .before .before .before in
@@ -91,7 +86,9 @@ put-block-spec =
     (tie.spec
     Inv-loop μ-loop
     (λ c κs. search needs)
-    loop-holds
+    (λ c.
+    let a = c .before .before .before .args in
+    (search needs, refl, c .no-sums .ensures _, λ o e. e ∙ ap (begun (a .depth) (a .list .now) o) (omega arith)))
     (λ c κs. search needs) (λ c κs. search needs) (λ c κs. search needs) (λ c. search needs) (λ c. search needs)
     loop-again
     (λ c κs. search needs) (λ c κs. search needs) (λ c. search needs)

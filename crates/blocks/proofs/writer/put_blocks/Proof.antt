@@ -32,12 +32,6 @@ loop-holds : tie.Need-loop-holds Inv-loop μ-loop
 unfolding tabulated
 loop-holds c = (search needs, refl)
 
-put-block-requires : tie.Need-put-block-requires Inv-loop μ-loop
-put-block-requires c κs =
-    let h = c .before .before in
-    let (number, few, room) = s h .pre in
-    (record { number = number; few = few; inside = c .before .loop-test .taken }, omega (arith, same h))
-
 returns : tie.Need-returns Inv-loop μ-loop
 unfolding fileOf
 returns c =
@@ -53,7 +47,10 @@ put-blocks-spec =
     (tie.spec
     Inv-loop μ-loop
     loop-holds
-    put-block-requires
+    (λ c κs.
+    let h = c .before .before in
+    let (number, few, room) = s h .pre in
+    (record { number = number; few = few; inside = c .before .loop-test .taken }, omega (arith, same h)))
     (λ c. search needs) (λ c. search needs)
     (λ c. let h = c .before .before .before .before .before in (search needs, c .before .before .put-block .ensures (s h .args .bytes .now) (h .loop .inv .1)))
     (λ c. same (c .before))

@@ -58,12 +58,6 @@ module _ (c : tie.After-blocks-of) where
   told : {r : Answer} {after : List ℕ} → WritesOf (f t) (o t) r after → WriteOf (s t .args .depth) (l t) (o t) r after
   told w = list-written (f t) (o t) (s t .args .depth) (l t) _ (t .check .result) (t .check .ensures) none _ _ w
 
-returns-3 : tie.Need-returns-3
-returns-3 c =
-    let w = c .before .before .before in
-    let q = w .before .before .before in
-    told q (standing (f (t q)) (o (t q)) _ (need q) _ _ (w .before .before .if2 .left) (c .success .ensures) (w .put-blocks .ensures))
-
 pub write-spec : {M : Type 1} → statement M
 write-spec =
     tie.close
@@ -76,4 +70,7 @@ write-spec =
     (λ c. let q = c .before .before in told q (too-short (f (t q)) (o (t q)) _ (need q) _ _ (c .before .if2 .taken) (c .refusal .ensures) refl))
     (λ c κs. let q = c .before .before in (is-blocks q, few q, c .before .if2 .left))
     (λ c κs. search needs) (λ c. search needs)
-    returns-3)
+    (λ c.
+    let w = c .before .before .before in
+    let q = w .before .before .before in
+    told q (standing (f (t q)) (o (t q)) _ (need q) _ _ (w .before .before .if2 .left) (c .success .ensures) (w .put-blocks .ensures))))

@@ -36,18 +36,6 @@ module _ (c : tie.Else2) where
   some-side : (s : ℕ) → s ≡ 2 ^ (start .args .depth - start .args .level) → 0 < s
   some-side s e = omega (arith, e, pow2-pos (start .args .depth - start .args .level))
 
-returns-2 : tie.Need-returns-2
-returns-2 c =
-    let p = c .before .before in
-    inr (passes (deep-enough (p .before .if1 .left)), inl (_, (sym (p .is-corner .ensures) ∙ not-true _ (c .before .if2 .taken), refl), c .refusal2 .ensures))
-
-add-code : tie.Need-add-code
-add-code c =
-    let e = c .before .before .before in
-    let a = e .before .before .before .args in
-    let s : ℕ = c .before .before .pow2 .result in
-    omega (arith, c .number-of .ensures, c .before .pow8 .ensures, number-lt (a .level) (a .x / s) (a .y / s) (a .z / s), codes-fit (a .level) (omega (arith, grid e .deep, deep e)))
-
 returns-3 : tie.Need-returns-3
 returns-3 c =
     let e = c .before .before .before .before in
@@ -68,7 +56,9 @@ code-spec =
     (λ c κs. search needs)
     (λ c. inl (_, (c .before .if1 .taken, refl), c .refusal .ensures))
     (λ c κs. search needs) (λ c κs. search needs)
-    returns-2
+    (λ c.
+    let p = c .before .before in
+    inr (passes (deep-enough (p .before .if1 .left)), inl (_, (sym (p .is-corner .ensures) ∙ not-true _ (c .before .if2 .taken), refl), c .refusal2 .ensures)))
     (λ c. grid c .deep)
     (λ c κs. omega (arith, deep c))
     (λ c κs. omega (arith, grid (c .before) .deep, deep (c .before)))
@@ -76,6 +66,10 @@ code-spec =
     (λ c. some-side (c .before .before) _ (c .before .pow2 .ensures))
     (λ c. some-side (c .before .before) _ (c .before .pow2 .ensures))
     (λ c κs. omega (arith, grid (c .before .before) .deep, deep (c .before .before)))
-    add-code
+    (λ c.
+    let e = c .before .before .before in
+    let a = e .before .before .before .args in
+    let s : ℕ = c .before .before .pow2 .result in
+    omega (arith, c .number-of .ensures, c .before .pow8 .ensures, number-lt (a .level) (a .x / s) (a .y / s) (a .z / s), codes-fit (a .level) (omega (arith, grid e .deep, deep e))))
     (λ c. search needs) (λ c κs. search needs)
     returns-3)

@@ -43,12 +43,6 @@ module _ (c : tie.Else2) where
   on-x : grid p (s p .args .x) ≡ true
   on-x = tested p _ (c .before .on-grid .ensures) ∙ not-false _ (c .if2 .left)
 
-returns-4 : tie.Need-returns-4
-returns-4 c =
-    let g = c .before .before in
-    let e = g .before in
-    corner (p e) _ (rw (on-x e, tested (p e) _ (g .on-grid2 .ensures) ∙ not-false _ (c .before .if3 .left)) (sym (tested (p e) _ (c .on-grid3 .ensures))))
-
 pub is-corner-spec : {M : Type 1} → statement M
 is-corner-spec =
     tie.close
@@ -60,4 +54,7 @@ is-corner-spec =
     (λ c κs. some-side (p c))
     (λ c. let g = c .before in let e = g .before in corner (p e) _ (rw (on-x e, tested (p e) _ (g .on-grid2 .ensures) ∙ not-true _ (c .if3 .taken))))
     (λ c κs. some-side (p (c .before .before)))
-    returns-4)
+    (λ c.
+    let g = c .before .before in
+    let e = g .before in
+    corner (p e) _ (rw (on-x e, tested (p e) _ (g .on-grid2 .ensures) ∙ not-false _ (c .before .if3 .left)) (sym (tested (p e) _ (c .on-grid3 .ensures))))))

@@ -22,11 +22,6 @@ module _ (c : tie.Else2) where
   is-proper : proper (c .before .before .before .args .depth) (c .before .before .before .args .code) ≡ true
   is-proper = sym (c .before .is-proper .ensures) ∙ not-false _ (c .if2 .left)
 
-returns-2 : tie.Need-returns-2
-returns-2 c =
-    let p = c .before .before in
-    inr (passes (deep-enough (p .before .if1 .left)), inl (_, (sym (p .is-proper .ensures) ∙ not-true _ (c .before .if2 .taken), refl), c .no-corner2 .ensures))
-
 returns-3 : tie.Need-returns-3
 returns-3 c =
     let e = c .before .before .before .before .before in
@@ -45,7 +40,9 @@ place-spec =
     (λ c κs. search needs)
     (λ c. inl (_, (c .before .if1 .taken, refl), c .no-corner .ensures))
     (λ c κs. search needs) (λ c κs. search needs)
-    returns-2
+    (λ c.
+    let p = c .before .before in
+    inr (passes (deep-enough (p .before .if1 .left)), inl (_, (sym (p .is-proper .ensures) ∙ not-true _ (c .before .if2 .taken), refl), c .no-corner2 .ensures)))
     (λ c κs. let q = is-proper c in (omega arith, deep c, q))
     (λ c κs. (omega arith, deep (c .before), is-proper (c .before)))
     (λ c κs. (omega arith, deep (c .before .before), is-proper (c .before .before)))

@@ -31,11 +31,6 @@ module _ (c : tie.After-digit3) where
   abbrev steps : ℕ → ℤ
   steps = axes (s .args .dx) (s .args .dy) (s .args .dz)
 
-returns-4 : tie.Need-returns-4
-returns-4 c =
-    let q = c .before .before .before in
-    subst (Direction (steps q)) (omega (arith, at-x q, at-y q, at-z q)) (numbered (steps q) (each-axis _ (omega (arith, at-x q)) (omega (arith, at-y q)) (omega (arith, at-z q))))
-
 pub direction-spec : {M : Type 1} → statement M
 direction-spec =
     tie.close
@@ -45,4 +40,6 @@ direction-spec =
     (λ c. let q = c .before .before in bad-step (steps q) 1 (omega arith) (omega (arith, at-y q)))
     (λ c. let q = c .before .before .before in bad-step (steps q) 2 (omega arith) (omega (arith, at-z q)))
     (λ c. search needs) (λ c. search needs) (λ c. search needs) (λ c. search needs)
-    returns-4)
+    (λ c.
+    let q = c .before .before .before in
+    subst (Direction (steps q)) (omega (arith, at-x q, at-y q, at-z q)) (numbered (steps q) (each-axis _ (omega (arith, at-x q)) (omega (arith, at-y q)) (omega (arith, at-z q))))))

@@ -75,11 +75,6 @@ module _ (c : tie.After-direction Inv-loop μ-loop) where
   past : (r : Answer) → Decided alone (NoDirection steps ∷ Outside D code steps ∷ []) (λ r. (m : ℕ) × Neighbour D code steps m × (r ≡ given m)) r → NeighbourOf D code steps r
   past r x = inr (passes (deep-enough deep), inr (passes (clash is), x))
 
-returns-2 : tie.Need-returns-2 Inv-loop μ-loop
-returns-2 c =
-    let p = c .before .before in
-    inr (passes (deep-enough (p .before .if1 .left)), inl (_, (sym (p .is-proper .ensures) ∙ not-true _ (c .before .if2 .taken), refl), c .refusal2 .ensures))
-
 -- ---- in the loop
 
 module _ (l : tie.At-loop Inv-loop μ-loop) where
@@ -98,11 +93,6 @@ module _ (l : tie.At-loop Inv-loop μ-loop) where
 
   fits : l .loop .carry ≤ 0 → l .loop .rest * l .loop .weight + l .loop .done < 2 ^ wordBits
   fits h = omega (arith, worked h, small q, stepped-sum (k q) (i q) (d q) (directed q .small) .0)
-
-loop-holds : tie.Need-loop-holds Inv-loop μ-loop
-loop-holds c =
-    let q = c .before in
-    begins (k q) (i q) (d q) (code q) (code-is (D q) (code q) (is q)) (index-lt (D q) (code q) (is q)) (directed q .small)
 
 returns-4 : tie.Need-returns-4 Inv-loop μ-loop
 returns-4 c =
@@ -140,10 +130,14 @@ neighbour-spec =
     (λ c κs. search needs)
     (λ c. inl (_, (c .before .if1 .taken, refl), c .refusal .ensures))
     (λ c κs. search needs) (λ c κs. search needs)
-    returns-2
+    (λ c.
+    let p = c .before .before in
+    inr (passes (deep-enough (p .before .if1 .left)), inl (_, (sym (p .is-proper .ensures) ∙ not-true _ (c .before .if2 .taken), refl), c .refusal2 .ensures)))
     (λ c κs. search needs) (λ c κs. search needs)
     (λ c. let x = c .before .before in past x _ (inl (_, (directed x .bad (c .before .if3 .taken), refl), c .refusal3 .ensures)))
-    loop-holds
+    (λ c.
+    let q = c .before in
+    begins (k q) (i q) (d q) (code q) (code-is (D q) (code q) (is q)) (index-lt (D q) (code q) (is q)) (directed q .small))
     (λ c κs. search needs)
     returns-4
     (λ c κs. (omega arith, c .before .before .loop .inv .small))

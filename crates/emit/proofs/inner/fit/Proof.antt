@@ -30,13 +30,6 @@ Inv-loop p to room w₀ w = Fits p to w
 abbrev μ-loop : tie.MeasureT-loop
 μ-loop p to room w₀ w = to - w
 
-returns : tie.Need-returns Inv-loop μ-loop
-returns c =
-    let a = c .before .before .before .args in
-    let w = c .before .before .loop .w in
-    most-fits (a .p) (a .to) w (c .before .before .loop .inv)
-    (λ m e g. c .if1 .taken (ap (λ (n : ℕ). n % (w * 8)) (e ∙ ap (λ (n : ℕ). m * n) (mul-comm 8 w)) ∙ mul-mod-left m (w * 8)))
-
 loop-again : tie.Need-loop-again Inv-loop μ-loop
 loop-again c =
     let a = c .before .before .before .args in
@@ -50,11 +43,6 @@ loop-again c =
       fits = omega arith;
     }
 
-returns-2 : tie.Need-returns-2 Inv-loop μ-loop
-returns-2 c =
-    let a = c .before .before .args in
-    most-fits (a .p) (a .to) (c .before .loop .w) (c .before .loop .inv) (λ m e g. omega arith)
-
 pub fit-spec : {M : Type 1} → statement M
 fit-spec =
     tie.close
@@ -64,7 +52,13 @@ fit-spec =
     (λ c. record { k = 0; q = c .args .p; wide = refl; even = sym (mul-one (c .args .p)); fits = omega arith })
     (λ c. omega arith)
     (λ c. omega (arith, some (c .before .loop .inv)))
-    returns
+    (λ c.
+    let a = c .before .before .before .args in
+    let w = c .before .before .loop .w in
+    most-fits (a .p) (a .to) w (c .before .before .loop .inv)
+    (λ m e g. c .if1 .taken (ap (λ (n : ℕ). n % (w * 8)) (e ∙ ap (λ (n : ℕ). m * n) (mul-comm 8 w)) ∙ mul-mod-left m (w * 8))))
     (λ c. omega (arith, some (c .before .before .loop .inv)))
     loop-again
-    returns-2)
+    (λ c.
+    let a = c .before .before .args in
+    most-fits (a .p) (a .to) (c .before .loop .w) (c .before .loop .inv) (λ m e g. omega arith)))

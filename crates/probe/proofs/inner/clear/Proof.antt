@@ -15,19 +15,6 @@ Inv-loop answer₀ i₀ answer i = (i ≤ length answer₀) × (length answer �
 abbrev μ-loop : tie.MeasureT-loop
 μ-loop answer₀ i₀ answer i = length answer₀ - i
 
-loop-again : tie.Need-loop-again Inv-loop μ-loop
-loop-again c =
-    let l = c .before in
-    let o = l .before .args .answer .now in
-    (omega arith, simp length-set (omega arith), ap (λ (x : List ℕ). set x (l .loop .i) 0) (l .loop .inv .2) ∙ fill-more (l .loop .i) 0 o (omega arith))
-
-returns : tie.Need-returns Inv-loop μ-loop
-returns c =
-    let l = c .before in
-    let o = l .before .args .answer .now in
-    let e : l .loop .i ≡ length o = omega arith in
-    l .loop .inv .2 ∙ rw e (zeros-all (length o) o (omega arith))
-
 pub clear-spec : {M : Type 1} → statement M
 clear-spec =
     tie.close
@@ -38,6 +25,13 @@ clear-spec =
     (λ c. omega arith)
     (λ c. omega arith)
     (λ c. omega arith)
-    loop-again
+    (λ c.
+    let l = c .before in
+    let o = l .before .args .answer .now in
+    (omega arith, simp length-set (omega arith), ap (λ (x : List ℕ). set x (l .loop .i) 0) (l .loop .inv .2) ∙ fill-more (l .loop .i) 0 o (omega arith)))
     (λ c. omega arith)
-    returns)
+    (λ c.
+    let l = c .before in
+    let o = l .before .args .answer .now in
+    let e : l .loop .i ≡ length o = omega arith in
+    l .loop .inv .2 ∙ rw e (zeros-all (length o) o (omega arith))))

@@ -6,13 +6,6 @@ use Rattle.probe.proofs.Words.{told-over}
 use Rattle.probe.proofs.inner.tell.Statement.{statement}
 use Rattle.probe.proofs.inner.tell.Tie as tie
 
-returns : tie.Need-returns
-returns c =
-    let k = c .before .before .before .before in
-    let s = k .before .before .before in
-    let a = s .args in
-    rw (k .clear .ensures) (told-over _ (a .a .number) (a .a .place) (a .a .list) (a .x) (a .y) (a .z) (a .level) (s .pre))
-
 pub tell-spec : {M : Type 1} → statement M
 tell-spec =
     tie.close
@@ -26,4 +19,8 @@ tell-spec =
     (λ c. simp length-set (omega arith))
     (λ c. simp length-set (omega arith))
     (λ c. search needs)
-    returns)
+    (λ c.
+    let k = c .before .before .before .before in
+    let s = k .before .before .before in
+    let a = s .args in
+    rw (k .clear .ensures) (told-over _ (a .a .number) (a .a .place) (a .a .list) (a .x) (a .y) (a .z) (a .level) (s .pre))))

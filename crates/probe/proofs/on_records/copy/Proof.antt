@@ -14,27 +14,6 @@ Inv-loop from to₀ i₀ to i = (i ≤ length from) × (i ≤ length to₀) × (
 abbrev μ-loop : tie.MeasureT-loop
 μ-loop from to₀ i₀ to i = length from - i
 
-returns : tie.Need-returns Inv-loop μ-loop
-returns c =
-    let l = c .before .before in
-    let a = l .before .args in
-    let e : l .loop .i ≡ min (length (a .from .now)) (length (a .to .now)) = omega arith in
-    l .loop .inv .3 ∙ ap (λ (n : ℕ). take n (a .from .now) ++ drop n (a .to .now)) e
-
-loop-again : tie.Need-loop-again Inv-loop μ-loop
-loop-again c =
-    let l = c .before .before .before in
-    let a = l .before .args in
-    let i : ℕ = l .loop .i in
-    (omega arith, omega arith, simp length-set (omega arith), ap (λ (t : List ℕ). set t i (getD (a .from .now) i 0)) (l .loop .inv .3) ∙ copied-more i (a .from .now) (a .to .now) (omega arith) (omega arith))
-
-returns-2 : tie.Need-returns-2 Inv-loop μ-loop
-returns-2 c =
-    let l = c .before in
-    let a = l .before .args in
-    let e : l .loop .i ≡ min (length (a .from .now)) (length (a .to .now)) = omega arith in
-    l .loop .inv .3 ∙ ap (λ (n : ℕ). take n (a .from .now) ++ drop n (a .to .now)) e
-
 pub copy-spec : {M : Type 1} → statement M
 copy-spec =
     tie.close
@@ -42,13 +21,25 @@ copy-spec =
     Inv-loop μ-loop
     (λ c. (omega arith, omega arith, omega arith, copied-none (c .args .from .now) (c .args .to .now)))
     (λ c. omega arith)
-    returns
+    (λ c.
+    let l = c .before .before in
+    let a = l .before .args in
+    let e : l .loop .i ≡ min (length (a .from .now)) (length (a .to .now)) = omega arith in
+    l .loop .inv .3 ∙ ap (λ (n : ℕ). take n (a .from .now) ++ drop n (a .to .now)) e)
     (λ c. omega arith)
     (λ c. omega arith)
     (λ c. omega arith)
     (λ c. omega arith)
     (λ c. omega arith)
     (λ c. omega arith)
-    loop-again
+    (λ c.
+    let l = c .before .before .before in
+    let a = l .before .args in
+    let i : ℕ = l .loop .i in
+    (omega arith, omega arith, simp length-set (omega arith), ap (λ (t : List ℕ). set t i (getD (a .from .now) i 0)) (l .loop .inv .3) ∙ copied-more i (a .from .now) (a .to .now) (omega arith) (omega arith)))
     (λ c. omega arith)
-    returns-2)
+    (λ c.
+    let l = c .before in
+    let a = l .before .args in
+    let e : l .loop .i ≡ min (length (a .from .now)) (length (a .to .now)) = omega arith in
+    l .loop .inv .3 ∙ ap (λ (n : ℕ). take n (a .from .now) ++ drop n (a .to .now)) e))

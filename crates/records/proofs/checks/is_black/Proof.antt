@@ -8,13 +8,6 @@ use Rattle.records.proofs.Search.{starts-same, black-last}
 use Rattle.records.proofs.checks.is_black.Statement.{statement}
 use Rattle.records.proofs.checks.is_black.Tie as tie
 
-returns : tie.Need-returns
-returns c =
-    let s = c .before .before .before in
-    let a = s .args in
-    let f = c .before .first-from in
-    c .last-reaches .ensures ∙ black-last (a .depth) (a .list .now) (s .pre .1) (a .v) (f .result) (starts-same (omega arith) (f .ensures))
-
 pub is-black-spec : {M : Type 1} → statement M
 is-black-spec =
     tie.close
@@ -22,4 +15,8 @@ is-black-spec =
     (λ c. let s = c .before in omega (arith, codes-fit (s .args .depth) (s .pre .0), s .pre .2))
     (λ c κs. let s = c .before in record { shallow = s .pre .0; ordered = s .pre .1; rising = zero-le; within = le-refl _ })
     (λ c κs. let s = c .before .before in (s .pre .0, s .pre .1, c .first-from .ensures .high))
-    returns)
+    (λ c.
+    let s = c .before .before .before in
+    let a = s .args in
+    let f = c .before .first-from in
+    c .last-reaches .ensures ∙ black-last (a .depth) (a .list .now) (s .pre .1) (a .v) (f .result) (starts-same (omega arith) (f .ensures))))

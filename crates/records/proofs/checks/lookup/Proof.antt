@@ -52,17 +52,6 @@ module _ (c : tie.Else1) where
   next : (r : Answer) → Decided alone (left t) (Told t) r → LookupOf (D t) (l t) (s t .args .x) (s t .args .y) (s t .args .z) r
   next r d = opening-passes (checks (D t) (l t)) (t .check .result) (t .check .ensures) alone (left t) (Told t) r none d
 
-returns-2 : tie.Need-returns-2
-returns-2 c =
-    let p = c .before .before in
-    next (p .before) _ (inl (_, (sym (p .in-root .ensures) ∙ not-true _ (c .before .if2 .taken), refl), c .refusal .ensures))
-
-is-black-requires : tie.Need-is-black-requires
-is-black-requires c κs =
-    let e = c .before .before .before in
-    let a = s (t e) .args in
-    (known e .shallow, known e .good .ordered, omega (arith, c .number-of .ensures, number-lt (a .depth) (a .x) (a .y) (a .z)))
-
 -- ---- the answer, by what the voxel is
 
 module _ (c : tie.After-is-black) where
@@ -85,9 +74,14 @@ lookup-spec =
     (λ c. let t = c .before in opening-refuses (checks (D t) (l t)) (t .check .result) (t .check .ensures) alone (left t) (Told t) (c .if1 .taken))
     (λ c κs. known c .shallow)
     (λ c κs. search needs)
-    returns-2
+    (λ c.
+    let p = c .before .before in
+    next (p .before) _ (inl (_, (sym (p .in-root .ensures) ∙ not-true _ (c .before .if2 .taken), refl), c .refusal .ensures)))
     (λ c κs. known (c .before .before) .shallow)
-    is-black-requires
+    (λ c κs.
+    let e = c .before .before .before in
+    let a = s (t e) .args in
+    (known e .shallow, known e .good .ordered, omega (arith, c .number-of .ensures, number-lt (a .depth) (a .x) (a .y) (a .z))))
     (λ c κs. search needs)
     (λ c. told (c .before .before) _ _ (c .before .if3 .taken) (c .success .ensures))
     (λ c κs. search needs)

@@ -21,11 +21,6 @@ module _ (c : tie.After-judge) where
   abbrev l : List ℕ
   l = deep .before .before .args .list .now
 
-returns-2 : tie.Need-returns-2
-returns-2 c =
-    let j = c .before .before in
-    inr (passes (deep-enough (deep j .if1 .left)), inl (_, walked-refuses (D j) (l j) _ (j .judge .ensures) 1 (c .before .if2 .taken), c .refusal2 .ensures))
-
 returns-3 : tie.Need-returns-3
 returns-3 c =
     let j = c .before .before .before in
@@ -46,6 +41,8 @@ volume-spec =
     (λ c κs. search needs)
     (λ c. inl (_, (c .before .if1 .taken, refl), c .refusal .ensures))
     (λ c κs. search needs) (λ c κs. search needs)
-    returns-2
+    (λ c.
+    let j = c .before .before in
+    inr (passes (deep-enough (deep j .if1 .left)), inl (_, walked-refuses (D j) (l j) _ (j .judge .ensures) 1 (c .before .if2 .taken), c .refusal2 .ensures)))
     (λ c. search needs) (λ c κs. search needs)
     returns-3)

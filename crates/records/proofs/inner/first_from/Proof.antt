@@ -41,11 +41,6 @@ module _ (c : tie.In-loop Inv-loop μ-loop) where
   within : mid < length (s .args .l .now)
   within = omega (arith, below-hi, s .pre .within)
 
-first-requires : tie.Need-first-requires Inv-loop μ-loop
-first-requires c κs =
-    let t = c .before in
-    (s t .pre .shallow, proper-at (s t .args .depth) (s t .args .l .now) (s t .pre .ordered) (mid t) (within t))
-
 loop-again : tie.Need-loop-again Inv-loop μ-loop
 loop-again c =
     let t = c .before .before .before in
@@ -74,11 +69,6 @@ loop-again-2 c =
       above = λ i p q. omega (arith, starts-rise (a .depth) (a .l .now) o (mid t) i p (omega (arith, s t .pre .within)), c .if1 .left, c .before .first .ensures);
     }
 
-returns : tie.Need-returns Inv-loop μ-loop
-returns c =
-    let v = c .before .loop .inv in
-    record { low = v .from; high = omega (arith, v .order, v .to); below = v .below; above = λ i p q. v .above i (omega (arith, c .loop-test .left)) q }
-
 pub first-from-spec : {M : Type 1} → statement M
 first-from-spec =
     tie.close
@@ -86,9 +76,13 @@ first-from-spec =
     Inv-loop μ-loop
     (λ c. record { from = omega arith; order = omega arith; to = omega arith; below = λ i p q. absurd (omega arith); above = λ i p q. absurd (omega arith) })
     (λ c. search needs) (λ c. search needs) (λ c. search needs) (λ c. search needs)
-    first-requires
+    (λ c κs.
+    let t = c .before in
+    (s t .pre .shallow, proper-at (s t .args .depth) (s t .args .l .now) (s t .pre .ordered) (mid t) (within t)))
     (λ c. search needs) (λ c. search needs)
     loop-again
     (λ c. search needs)
     loop-again-2
-    returns)
+    (λ c.
+    let v = c .before .loop .inv in
+    record { low = v .from; high = omega (arith, v .order, v .to); below = v .below; above = λ i p q. v .above i (omega (arith, c .loop-test .left)) q }))

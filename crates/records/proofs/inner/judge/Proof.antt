@@ -29,12 +29,6 @@ module _ (c : tie.After-step Inv-loop μ-loop) where
   more : Walked (s p .args .depth) (s p .args .list .now) (p .before .loop .i + 1) (c .step .result)
   more = c .step .ensures (s p .args .list .now) (p .before .loop .i) (p .before .loop .inv .1) refl
 
-returns-2 : tie.Need-returns-2 Inv-loop μ-loop
-returns-2 c =
-    let a = c .before .before .before .before .args in
-    let o = c .before .loop in
-    subst (λ (n : ℕ). Walked (a .depth) (a .list .now) n (o .walk)) (omega (arith, c .loop-test .left, o .inv .0)) (o .inv .1)
-
 pub judge-spec : {M : Type 1} → statement M
 judge-spec =
     tie.close
@@ -47,4 +41,7 @@ judge-spec =
     (λ c. stays (more (c .before)) (c .if1 .taken) (omega (arith, p (c .before) .loop-test .taken)))
     (λ c. search needs) (λ c. search needs)
     (λ c. (omega (arith, p (c .before) .loop-test .taken), more (c .before)))
-    returns-2)
+    (λ c.
+    let a = c .before .before .before .before .args in
+    let o = c .before .loop in
+    subst (λ (n : ℕ). Walked (a .depth) (a .list .now) n (o .walk)) (omega (arith, c .loop-test .left, o .inv .0)) (o .inv .1)))

@@ -24,18 +24,6 @@ module _ (c : tie.Else1) where
   is : proper (s .args .depth) leaf ≡ true
   is = proper-at (s .args .depth) (s .args .l .now) (s .pre .1) (s .args .at - 1) (omega (arith, c .if1 .left, s .pre .2))
 
-add-result : tie.Need-add-result
-add-result c =
-    let u = c .before .before .before in
-    let a = s u .args in
-    omega (arith, c .before .first .ensures, c .width .ensures, end-fits (a .depth) (leaf u) (s u .pre .0) (is u))
-
-returns-2 : tie.Need-returns-2
-returns-2 c =
-    let u = c .before .before .before in
-    let a = s u .args in
-    ap (ltb (a .v)) (omega (arith, c .before .first .ensures, c .width .ensures)) ∙ sym (reaches-is (a .depth) (a .l .now) (a .at) (a .v) (omega (arith, u .if1 .left)))
-
 pub last-reaches-spec : {M : Type 1} → statement M
 last-reaches-spec =
     tie.close
@@ -44,5 +32,11 @@ last-reaches-spec =
     (λ c. search needs) (λ c. search needs) (λ c. search needs)
     (λ c κs. let u = c .before in (s u .pre .0, is u))
     (λ c κs. let u = c .before .before in (s u .pre .0, is u))
-    add-result
-    returns-2)
+    (λ c.
+    let u = c .before .before .before in
+    let a = s u .args in
+    omega (arith, c .before .first .ensures, c .width .ensures, end-fits (a .depth) (leaf u) (s u .pre .0) (is u)))
+    (λ c.
+    let u = c .before .before .before in
+    let a = s u .args in
+    ap (ltb (a .v)) (omega (arith, c .before .first .ensures, c .width .ensures)) ∙ sym (reaches-is (a .depth) (a .l .now) (a .at) (a .v) (omega (arith, u .if1 .left)))))

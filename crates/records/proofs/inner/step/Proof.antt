@@ -48,27 +48,6 @@ module _ (c : tie.Else3) where
   late : s (u p) .args .walk .past ≤ start (D (u p)) (code (u p))
   late = omega (arith, c .before .before .first .ensures, c .if3 .left)
 
-returns-2 : tie.Need-returns-2
-returns-2 c =
-    let q = c .before .before in
-    let v = q .before in
-    let bad = sym (q .is-proper .ensures) ∙ not-true _ (c .before .if2 .taken) in
-    λ l i w e. let k = w .kept (going v) in stops k e _ 2 (c .ended .ensures) (λ z. omega arith) (improper k e bad)
-
-returns-3 : tie.Need-returns-3
-returns-3 c =
-    let q = c .before .before .before .before in
-    let v = u q in
-    let h : start (D v) (code v) < s v .args .walk .past = omega (arith, c .before .before .before .first .ensures, c .before .if3 .taken) in
-    λ l i w e. let k = w .kept (going v) in stops k e _ 3 (c .ended2 .ensures) (λ z. omega arith) (too-early k e (is q) h)
-
-returns-4 : tie.Need-returns-4
-returns-4 c =
-    let t = c .before .before .before in
-    let v = u (p t) in
-    let r = sym (c .before .before .next-run .ensures) ∙ c .before .if4 .taken in
-    λ l i w e. let k = w .kept (going v) in stops k e _ 4 (c .ended3 .ensures) (λ z. omega arith) (eighth k e (is (p t)) (late t) r)
-
 -- ---- the leaf is passed
 
 module _ (c : tie.After-width) where
@@ -85,27 +64,36 @@ module _ (c : tie.After-width) where
   ends : t .before .before .first .result + c .width .result ≡ end (D v) (code v)
   ends = omega (arith, t .before .before .first .ensures, c .width .ensures)
 
-returns-5 : tie.Need-returns-5
-returns-5 c =
-    let x = c .before in
-    let run = n x .next-run .ensures in
-    λ l i w e.
-    goes (w .kept (going (v x))) e (is (p (t x))) (late (t x)) (λ z. x .before .if4 .left (run ∙ z)) _ refl refl refl (ends x) run (omega (arith, x .width .ensures))
-
 pub step-spec : {M : Type 1} → statement M
 step-spec =
     tie.close
     (tie.spec
     (λ c. λ l i w e. stays w (c .if1 .taken) (omega arith))
     (λ c κs. search needs) (λ c κs. search needs)
-    returns-2
+    (λ c.
+    let q = c .before .before in
+    let v = q .before in
+    let bad = sym (q .is-proper .ensures) ∙ not-true _ (c .before .if2 .taken) in
+    λ l i w e. let k = w .kept (going v) in stops k e _ 2 (c .ended .ensures) (λ z. omega arith) (improper k e bad))
     (λ c κs. (s (u c) .pre .0, is c))
     (λ c κs. search needs)
-    returns-3
+    (λ c.
+    let q = c .before .before .before .before in
+    let v = u q in
+    let h : start (D v) (code v) < s v .args .walk .past = omega (arith, c .before .before .before .first .ensures, c .before .if3 .taken) in
+    λ l i w e. let k = w .kept (going v) in stops k e _ 3 (c .ended2 .ensures) (λ z. omega arith) (too-early k e (is q) h))
     (λ c κs. search needs) (λ c κs. search needs)
-    returns-4
+    (λ c.
+    let t = c .before .before .before in
+    let v = u (p t) in
+    let r = sym (c .before .before .next-run .ensures) ∙ c .before .if4 .taken in
+    λ l i w e. let k = w .kept (going v) in stops k e _ 4 (c .ended3 .ensures) (λ z. omega arith) (eighth k e (is (p t)) (late t) r))
     (λ c κs. let q = p (c .before .before) in (s (u q) .pre .0, is q))
     (λ c. let k = kept (v c) in omega (arith, k .is-passed, k .count, k .within, codes-fit (D (v c)) (s (v c) .pre .0)))
     (λ c. omega (arith, ends c, small (p (t c))))
     (λ c. let x = c .before in omega (arith, x .width .ensures, small (p (t x)), late (t x), kept (v x) .few))
-    returns-5)
+    (λ c.
+    let x = c .before in
+    let run = n x .next-run .ensures in
+    λ l i w e.
+    goes (w .kept (going (v x))) e (is (p (t x))) (late (t x)) (λ z. x .before .if4 .left (run ∙ z)) _ refl refl refl (ends x) run (omega (arith, x .width .ensures))))

@@ -93,32 +93,23 @@ module _ (c : tie.Else2) where
   small : m < 2 ^ wordBits
   small = code-fits (D (t (e n))) m (known (e n) .shallow) (is-next .is-proper)
 
-returns : tie.Need-returns
-returns c =
-    let t = c .before .before in
-    rw (c .none .ensures) (opening-refuses (checks (D t) (l t)) (t .check .result) (t .check .ensures) unmet (left t) (Told t) (c .before .if1 .taken))
-
-returns-2 : tie.Need-returns-2
-returns-2 c =
-    let n = c .before .before in
-    let u = t (e n) in
-    next (e n) _ (rw (c .none2 .ensures) (opening-refuses (neighbours (D u) (code u) (d u)) (n .neighbour .result) (decided n) unmet [] (Told u) (c .before .if2 .taken)))
-
-returns-3 : tie.Need-returns-3
-returns-3 c =
-    let q = c .before in
-    let n = q .before in
-    let u = t (e n) in
-    next (e n) _ (opening-passes (neighbours (D u) (code u) (d u)) (n .neighbour .result) (decided n) unmet [] (Told u) (c .part .result) (success q) (_, is-next q, c .part .ensures .0, c .part .ensures .1))
-
 pub find-spec : {M : Type 1} → statement M
 find-spec =
     tie.close
     (tie.spec
     (λ c κs. search needs) (λ c κs. search needs)
-    returns
+    (λ c.
+    let t = c .before .before in
+    rw (c .none .ensures) (opening-refuses (checks (D t) (l t)) (t .check .result) (t .check .ensures) unmet (left t) (Told t) (c .before .if1 .taken)))
     (λ c κs. search needs) (λ c κs. search needs)
-    returns-2
+    (λ c.
+    let n = c .before .before in
+    let u = t (e n) in
+    next (e n) _ (rw (c .none2 .ensures) (opening-refuses (neighbours (D u) (code u) (d u)) (n .neighbour .result) (decided n) unmet [] (Told u) (c .before .if2 .taken))))
     (λ c. omega (arith, small c))
     (λ c κs. let k = known (e (c .before)) in (k .shallow, k .good .ordered, is-next c .is-proper))
-    returns-3)
+    (λ c.
+    let q = c .before in
+    let n = q .before in
+    let u = t (e n) in
+    next (e n) _ (opening-passes (neighbours (D u) (code u) (d u)) (n .neighbour .result) (decided n) unmet [] (Told u) (c .part .result) (success q) (_, is-next q, c .part .ensures .0, c .part .ensures .1))))

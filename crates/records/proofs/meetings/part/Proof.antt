@@ -17,17 +17,6 @@ use Rattle.records.proofs.Search.{starts-same, reaches-true, part-from,
 use Rattle.records.proofs.meetings.part.Statement.{statement}
 use Rattle.records.proofs.meetings.part.Tie as tie
 
-add-first-from : tie.Need-add-first-from
-add-first-from c =
-    let f = c .before .before in
-    let s = f .before .before in
-    omega (arith, f .first .ensures, c .width .ensures, end-fits (s .args .depth) (s .args .m) (s .pre .0) (s .pre .2))
-
-first-from-requires-2 : tie.Need-first-from-requires-2
-first-from-requires-2 c κs =
-    let s = c .before .before .before .before in
-    record { shallow = s .pre .0; ordered = s .pre .1; rising = omega (arith, c .before .first-from .ensures .high); within = omega (arith, c .before .first-from .ensures .high) }
-
 -- ---- what the searches found
 
 module _ (c : tie.After-last-reaches) where
@@ -68,18 +57,6 @@ module _ (c : tie.After-last-reaches) where
 told : (D : ℕ) (l : List ℕ) (m a n : ℕ) (r : Meeting) → (r .answer ≡ given a) × (r .at ≡ a) × (r .n ≡ n) → MetPart D l m a n → MetPart D l m (r .at) (r .n) × (r .answer ≡ given (r .at))
 told D l m a n r (e, f, g) p = (rw (f, g) p, e ∙ ap given (sym f))
 
-returns : tie.Need-returns
-returns c =
-    let t = c .before .before in
-    let e = sym (tested t) ∙ c .before .if1 .taken in
-    told (D t) (l t) (s t .args .m) (at t - 1) (to t - (at t - 1)) _ (c .between .ensures) (part-before (D t) (l t) (s t .pre .1) (s t .args .m) (at t) (to t) (begins t) (ends t) e)
-
-returns-2 : tie.Need-returns-2
-returns-2 c =
-    let t = c .before .before in
-    let e = sym (tested t) ∙ c .before .if1 .left in
-    told (D t) (l t) (s t .args .m) (at t) (to t - at t) _ (c .between2 .ensures) (part-from (D t) (l t) (s t .pre .1) (s t .args .m) (at t) (to t) (begins t) (ends t) e)
-
 pub part-spec : {M : Type 1} → statement M
 part-spec =
     tie.close
@@ -87,11 +64,22 @@ part-spec =
     (λ c κs. let s = c .before in (s .pre .0, s .pre .2))
     (λ c κs. let s = c .before .before in record { shallow = s .pre .0; ordered = s .pre .1; rising = zero-le; within = le-refl _ })
     (λ c κs. let s = c .before .before .before in (s .pre .0, s .pre .2))
-    add-first-from
-    first-from-requires-2
+    (λ c.
+    let f = c .before .before in
+    let s = f .before .before in
+    omega (arith, f .first .ensures, c .width .ensures, end-fits (s .args .depth) (s .args .m) (s .pre .0) (s .pre .2)))
+    (λ c κs.
+    let s = c .before .before .before .before in
+    record { shallow = s .pre .0; ordered = s .pre .1; rising = omega (arith, c .before .first-from .ensures .high); within = omega (arith, c .before .first-from .ensures .high) })
     (λ c κs. let w = c .before in let s = w .before .before .before .before in (s .pre .0, s .pre .1, w .before .first-from .ensures .high))
     (λ c. omega (arith, some (c .before) (c .if1 .taken)))
     (λ c κs. omega (arith, ends (c .before) .low))
-    returns
+    (λ c.
+    let t = c .before .before in
+    let e = sym (tested t) ∙ c .before .if1 .taken in
+    told (D t) (l t) (s t .args .m) (at t - 1) (to t - (at t - 1)) _ (c .between .ensures) (part-before (D t) (l t) (s t .pre .1) (s t .args .m) (at t) (to t) (begins t) (ends t) e))
     (λ c κs. ends (c .before) .low)
-    returns-2)
+    (λ c.
+    let t = c .before .before in
+    let e = sym (tested t) ∙ c .before .if1 .left in
+    told (D t) (l t) (s t .args .m) (at t) (to t - at t) _ (c .between2 .ensures) (part-from (D t) (l t) (s t .pre .1) (s t .args .m) (at t) (to t) (begins t) (ends t) e)))

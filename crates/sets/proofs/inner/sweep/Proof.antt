@@ -44,11 +44,6 @@ module _ (c : tie.After-least2 Inv-loop μ-loop) where
       let inside : at-loop .loop .v < 8 ^ start .args .depth = omega (arith, c .before .before .before .loop-test .taken, at-loop .before .before .before .before .pow8 .ensures) in
       piece (inv .left) (c .before .before .look .ensures _ _ inside (inv .left)) (c .before .look2 .ensures _ _ inside (inv .right)) (c .least2 .ensures)
 
-push-requires : tie.Need-push-requires Inv-loop μ-loop
-push-requires c κs =
-    let u = c .before .before in
-    record { deep = start u .pre .0; ready = at-loop u .loop .inv .fed .ready; some = turn u .some; root = turn u .root }
-
 loop-again : tie.Need-loop-again Inv-loop μ-loop
 loop-again c =
     let passed = c .before .before in
@@ -94,7 +89,9 @@ sweep-spec =
     (λ c κs. tt)
     (λ c κs. tt)
     (λ c κs. tt)
-    push-requires
+    (λ c κs.
+    let u = c .before .before in
+    record { deep = start u .pre .0; ready = at-loop u .loop .inv .fed .ready; some = turn u .some; root = turn u .root })
     (λ c κs. let u = c .before .before .before .before .before in (start u .pre .0, turn u .left, (at-loop u .loop .v, omega (arith, turn u .some), at-loop u .loop .inv .left)))
     (λ c κs. let u = c .before .before .before .before .before .before in (start u .pre .0, turn u .right, (at-loop u .loop .v, omega (arith, turn u .some), at-loop u .loop .inv .right)))
     (λ c κs. tt)

@@ -27,12 +27,6 @@ module _ (c : tie.In-loop Inv-loop μ-loop) where
   there : c .before .loop .i < length (codes (start .args .bytes .now))
   there = omega (arith, start .pre .2, c .loop-test .taken)
 
-step-requires : tie.Need-step-requires Inv-loop μ-loop
-step-requires c κs =
-    let s = start (c .before) in
-    let o = c .before .before .loop in
-    (omega (arith, s .pre .1, shallow-file (s .args .bytes .now) (s .pre .0)), (codes (s .args .bytes .now), o .i, o .inv .1))
-
 -- a leaf more is passed
 module _ (c : tie.After-step Inv-loop μ-loop) where
   abbrev p : tie.In-loop Inv-loop μ-loop
@@ -44,12 +38,6 @@ module _ (c : tie.After-step Inv-loop μ-loop) where
   more : Walked (start p .args .depth) (codes b) (p .before .loop .i + 1) (c .step .result)
   more = c .step .ensures (codes b) (p .before .loop .i) (p .before .loop .inv .1) (codes-at b (p .before .loop .i) (there p) ∙ sym (c .before .code-at .ensures))
 
-returns-2 : tie.Need-returns-2 Inv-loop μ-loop
-returns-2 c =
-    let s = c .before .before .before .before in
-    let w = c .before .loop in
-    subst (λ (n : ℕ). Walked (s .args .depth) (codes (s .args .bytes .now)) n (w .walk)) (omega (arith, c .loop-test .left, w .inv .0, s .pre .2)) (w .inv .1)
-
 pub judge-stored-spec : {M : Type 1} → statement M
 judge-stored-spec =
     tie.close
@@ -58,8 +46,14 @@ judge-stored-spec =
     (λ c κs. search needs)
     (λ c. (search needs, c .begin .ensures _ _))
     (λ c κs. code-within (start c .args .bytes .now) (start c .pre .0) (c .before .loop .i) (there c))
-    step-requires
+    (λ c κs.
+    let s = start (c .before) in
+    let o = c .before .before .loop in
+    (omega (arith, s .pre .1, shallow-file (s .args .bytes .now) (s .pre .0)), (codes (s .args .bytes .now), o .i, o .inv .1)))
     (λ c. stays (more (c .before)) (c .if1 .taken) (omega (arith, there (p (c .before)))))
     (λ c. search needs) (λ c. search needs)
     (λ c. (omega (arith, p (c .before) .loop-test .taken), more (c .before)))
-    returns-2)
+    (λ c.
+    let s = c .before .before .before .before in
+    let w = c .before .loop in
+    subst (λ (n : ℕ). Walked (s .args .depth) (codes (s .args .bytes .now)) n (w .walk)) (omega (arith, c .loop-test .left, w .inv .0, s .pre .2)) (w .inv .1)))

@@ -29,22 +29,6 @@ module _ (c : tie.After-is-sound Inv-loop μ-loop) where
   told : c .is-sound .result ≡ soundAt (s .args .bytes .now) (h .loop .i)
   told = c .is-sound .ensures ∙ ap₂ (soundBlock (word (s .args .bytes .now) (h .loop .i)) (h .loop .i)) (s .pre .1) (h .loop .inv .1)
 
-returns : tie.Need-returns Inv-loop μ-loop
-returns c =
-    let p = c .before in
-    record { within = omega (arith, s p .pre .1, h p .loop .inv .0); before = h p .loop .inv .2; here = λ _. sym (told p) ∙ not-true _ (c .if1 .taken) }
-
-loop-again : tie.Need-loop-again Inv-loop μ-loop
-loop-again c =
-    let p = c .before in
-    (search needs, h p .loop .inv .1, below-more _ _ (h p .loop .inv .2) (sym (told p) ∙ not-false _ (c .if1 .left)))
-
-returns-2 : tie.Need-returns-2 Inv-loop μ-loop
-returns-2 c =
-    let h = c .before in
-    let s = h .before .before .before in
-    record { within = omega (arith, s .pre .1, h .loop .inv .0); before = h .loop .inv .2; here = λ l. absurd (omega (arith, s .pre .1, c .loop-test .left)) }
-
 pub first-unsound-spec : {M : Type 1} → statement M
 first-unsound-spec =
     tie.close
@@ -53,7 +37,14 @@ first-unsound-spec =
     (λ c κs. let s = c .before in omega (arith, whole-blocks _ (s .pre .0), s .pre .1))
     (λ c. (search needs, c .word-at .ensures, λ j h. absurd (omega arith)))
     (λ c κs. let s = c .before .before .before .before in omega (arith, whole-blocks _ (s .pre .0), s .pre .1))
-    returns
+    (λ c.
+    let p = c .before in
+    record { within = omega (arith, s p .pre .1, h p .loop .inv .0); before = h p .loop .inv .2; here = λ _. sym (told p) ∙ not-true _ (c .if1 .taken) })
     (λ c. search needs) (λ c. search needs)
-    loop-again
-    returns-2)
+    (λ c.
+    let p = c .before in
+    (search needs, h p .loop .inv .1, below-more _ _ (h p .loop .inv .2) (sym (told p) ∙ not-false _ (c .if1 .left))))
+    (λ c.
+    let h = c .before in
+    let s = h .before .before .before in
+    record { within = omega (arith, s .pre .1, h .loop .inv .0); before = h .loop .inv .2; here = λ l. absurd (omega (arith, s .pre .1, c .loop-test .left)) }))

@@ -41,12 +41,6 @@ module _ (c : tie.After-unused-zero) where
   is-unused : c .unused-zero .result ≡ unusedZero (v (w k))
   is-unused = c .unused-zero .ensures ∙ ap (λ (n : ℕ). allFrom (λ j. eqb (v (w k) j) 0) (4 + n) (blockCodes - n)) (w k .word-at4 .ensures)
 
-unused-zero-requires : tie.Need-unused-zero-requires
-unused-zero-requires c κs =
-    let q = c .before in
-    let a = s (w q) .args in
-    (omega (arith, s (w q) .pre), omega (arith, right-most (a .n) (a .i) (v (w q) 3) (sym (is-count q) ∙ not-false _ (c .if5 .left)), w q .word-at4 .ensures))
-
 returns-7 : tie.Need-returns-7
 returns-7 c =
     let u = c .before .before in
@@ -68,7 +62,10 @@ is-sound-spec =
     (λ c. wrong-block (c .before .before .before .before) (λ p. omega arith))
     (λ c κs. search needs)
     (λ c. let q = c .before in wrong-block (w q) (λ p. clash (p .count) (sym (is-count q) ∙ not-true _ (c .if5 .taken))))
-    unused-zero-requires
+    (λ c κs.
+    let q = c .before in
+    let a = s (w q) .args in
+    (omega (arith, s (w q) .pre), omega (arith, right-most (a .n) (a .i) (v (w q) 3) (sym (is-count q) ∙ not-false _ (c .if5 .left)), w q .word-at4 .ensures)))
     (λ c. let q = c .before in wrong-block (w (k q)) (λ p. clash (p .zeros) (sym (is-unused q) ∙ not-true _ (c .if6 .taken))))
     (λ c κs. search needs)
     returns-7)

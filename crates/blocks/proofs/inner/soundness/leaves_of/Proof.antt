@@ -14,12 +14,6 @@ module _ (s : tie.Start) where
   within : (1 ≤ s .args .n) × (blockBytes * s .args .n ≡ length (s .args .bytes .now))
   within = (omega (arith, s .pre .1, some-block _ (s .pre .0)), omega (arith, s .pre .1, all-blocks _ (s .pre .0)))
 
-returns : tie.Need-returns
-returns c =
-    let s = c .before .before in
-    let b = s .args .bytes .now in
-    ap (λ (x : ℕ). blockCodes * (s .args .n - 1) + x) (c .word-at .ensures) ∙ ap (λ (n : ℕ). blockCodes * (n - 1) + word b (n - 1) 3) (s .pre .1) ∙ sym (codes-length b)
-
 pub leaves-of-spec : {M : Type 1} → statement M
 leaves-of-spec =
     tie.close
@@ -30,4 +24,7 @@ leaves-of-spec =
     (λ c κs. let s = c .before in omega (arith, within s))
     (λ c. search needs)
     (λ c. let s = c .before .before in omega (arith, within s))
-    returns)
+    (λ c.
+    let s = c .before .before in
+    let b = s .args .bytes .now in
+    ap (λ (x : ℕ). blockCodes * (s .args .n - 1) + x) (c .word-at .ensures) ∙ ap (λ (n : ℕ). blockCodes * (n - 1) + word b (n - 1) 3) (s .pre .1) ∙ sym (codes-length b)))

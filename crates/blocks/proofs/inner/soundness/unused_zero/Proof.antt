@@ -33,24 +33,6 @@ module _ (c : tie.After-word-at Inv-loop μ-loop) where
   abbrev zero-at : ℕ → Bool
   zero-at v = eqb (word (a .args .bytes .now) (a .args .i) v) 0
 
-returns : tie.Need-returns Inv-loop μ-loop
-returns c =
-    let p = c .before in
-    let k = a p .args .k in
-    sym (refuted (allFrom (zero-at p) (4 + k) (122 - k)) (λ t. c .if1 .taken (p .word-at .ensures ∙ eqb-true _ 0 (all-true (zero-at p) (4 + k) (122 - k) t (h p .loop .w) (h p .loop .inv .1) (omega arith)))))
-
-loop-again : tie.Need-loop-again Inv-loop μ-loop
-loop-again c =
-    let p = c .before in
-    let z : p .word-at .result ≡ 0 = search needs in
-    (search needs, search needs, below-more _ _ (h p .loop .inv .2) (λ _. eq-eqb _ 0 (sym (p .word-at .ensures) ∙ z)))
-
-returns-2 : tie.Need-returns-2 Inv-loop μ-loop
-returns-2 c =
-    let h = c .before in
-    let a = h .before .before .args in
-    sym (all-made (λ w. eqb (word (a .bytes .now) (a .i) w) 0) (4 + a .k) (122 - a .k) (λ v lo hi. h .loop .inv .2 v (omega arith) lo))
-
 pub unused-zero-spec : {M : Type 1} → statement M
 unused-zero-spec =
     tie.close
@@ -59,7 +41,16 @@ unused-zero-spec =
     (λ c. search needs)
     (λ c. (search needs, search needs, λ v a b. absurd (omega arith)))
     (λ c κs. search needs)
-    returns
+    (λ c.
+    let p = c .before in
+    let k = a p .args .k in
+    sym (refuted (allFrom (zero-at p) (4 + k) (122 - k)) (λ t. c .if1 .taken (p .word-at .ensures ∙ eqb-true _ 0 (all-true (zero-at p) (4 + k) (122 - k) t (h p .loop .w) (h p .loop .inv .1) (omega arith))))))
     (λ c. search needs) (λ c. search needs)
-    loop-again
-    returns-2)
+    (λ c.
+    let p = c .before in
+    let z : p .word-at .result ≡ 0 = search needs in
+    (search needs, search needs, below-more _ _ (h p .loop .inv .2) (λ _. eq-eqb _ 0 (sym (p .word-at .ensures) ∙ z))))
+    (λ c.
+    let h = c .before in
+    let a = h .before .before .args in
+    sym (all-made (λ w. eqb (word (a .bytes .now) (a .i) w) 0) (4 + a .k) (122 - a .k) (λ v lo hi. h .loop .inv .2 v (omega arith) lo))))

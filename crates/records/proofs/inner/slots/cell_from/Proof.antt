@@ -9,13 +9,6 @@ use Rattle.records.proofs.SlotLaws.{at-cell, slot-proper, slot-cell}
 use Rattle.records.proofs.inner.slots.cell_from.Statement.{statement}
 use Rattle.records.proofs.inner.slots.cell_from.Tie as tie
 
-mul-result : tie.Need-mul-result
-mul-result c =
-    let s = c .before .before .before .before in
-    let a = s .args in
-    let low = within (a .depth) (getD (a .l .now) (a .s .lo) 0) (slot-proper (s .pre .0) (s .pre .1) _ (s .pre .1 .0)) in
-    record { fits = omega (arith, c .first .ensures, low, pow8-small (a .depth) (s .pre .0 .source .deep), div-add-mod' (c .first .result) (c .before .before .pow8 .result)) }
-
 returns : tie.Need-returns
 returns c = λ b y.
     let p = c .before .before .before .before .pre in
@@ -28,5 +21,9 @@ cell-from-spec =
     (λ c κs. search needs) (λ c. search needs) (λ c. search needs)
     (λ c κs. let p = c .before .before .before .pre in (p .0 .source .deep, slot-proper (p .0) (p .1) _ (p .1 .0)))
     (λ c. search needs)
-    mul-result
+    (λ c.
+    let s = c .before .before .before .before in
+    let a = s .args in
+    let low = within (a .depth) (getD (a .l .now) (a .s .lo) 0) (slot-proper (s .pre .0) (s .pre .1) _ (s .pre .1 .0)) in
+    record { fits = omega (arith, c .first .ensures, low, pow8-small (a .depth) (s .pre .0 .source .deep), div-add-mod' (c .first .result) (c .before .before .pow8 .result)) })
     returns)

@@ -21,12 +21,6 @@ Inv-loop h m p r₀ q₀ r q = Prefix (Picked p h m) (record { lo = 0; hi = 0 })
 abbrev μ-loop : tie.MeasureT-loop
 μ-loop h m p r₀ q₀ r q = 8 - q
 
-loop-again : tie.Need-loop-again Inv-loop μ-loop
-loop-again c =
-    let picked = c .before in
-    let head = picked .before .before .before in
-    prefix-more _ _ 8 (head .loop .r) (head .loop .q) _ (omega (arith, picked .before .before .loop-test .taken)) (rw (picked .before .carry-label .ensures .0, picked .sum-label .ensures .0)) (head .loop .inv)
-
 pub pick-spec : {M : Type 1} → statement M
 pick-spec =
     tie.close
@@ -35,5 +29,8 @@ pick-spec =
     (λ c. prefix-none _ _ 8 _ refl)
     (λ c. search needs) (λ c κs. search needs) (λ c. search needs) (λ c. search needs) (λ c κs. search needs) (λ c. search needs) (λ c. search needs)
     (λ c. search needs) (λ c. search needs) (λ c. search needs) (λ c. search needs) (λ c. search needs) (λ c. search needs) (λ c. search needs)
-    loop-again
+    (λ c.
+    let picked = c .before in
+    let head = picked .before .before .before in
+    prefix-more _ _ 8 (head .loop .r) (head .loop .q) _ (omega (arith, picked .before .before .loop-test .taken)) (rw (picked .before .carry-label .ensures .0, picked .sum-label .ensures .0)) (head .loop .inv))
     (λ c q h. c .before .loop .inv .each q (omega (arith, c .loop-test .left))))

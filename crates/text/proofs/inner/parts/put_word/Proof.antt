@@ -40,12 +40,6 @@ loop-again c =
       put-as e (put-append (l .inv .1) (p .put .ensures)),
     )
 
-returns : tie.Need-returns Inv-loop μ-loop
-returns c =
-    let h = c .before in
-    let a = s h .args in
-    put-as (take-all (h .loop .i) (a .word .now) (c .loop-test .left)) (h .loop .inv .1)
-
 pub put-word-spec : {M : Type 1} → statement M
 put-word-spec =
     tie.close
@@ -57,4 +51,7 @@ put-word-spec =
     (λ c. search needs) (λ c. search needs)
     loop-again
     (λ c. put-length (c .before .loop .inv .1))
-    returns)
+    (λ c.
+    let h = c .before in
+    let a = s h .args in
+    put-as (take-all (h .loop .i) (a .word .now) (c .loop-test .left)) (h .loop .inv .1)))
