@@ -3,6 +3,7 @@ use mathlib.Core.Path.{_≡_, refl}
 use mathlib.Core.Bool.{true}
 use mathlib.Core.List.{List, [], _∷_}
 use Prim.Native.Nat.{ℕ}
+use lib.Ieee.{binary64, ofBits}
 use lib.IntN.{pos}
 use lib.ListN.{length}
 use Rattle.records.specs.Writing.{stands}
@@ -18,8 +19,9 @@ use Rattle.sets.specs.declared.Op.{Op}
 use Rattle.sets.specs.declared.Op.the-variants.{Join, Intersect, Subtract}
 use Rattle.sets.specs.Inner.{both}
 use Rattle.sets.specs.Sets.{SetOf}
+use Rattle.metres.proofs.Rounding.{rounded}
 use Rattle.metres.specs.declared.Move.{Move}
-use Rattle.metres.specs.declared.Move.the-variants.{Voxels}
+use Rattle.metres.specs.declared.Move.the-variants.{Voxels, Metres}
 use Rattle.shifts.specs.LabelSums.{sumLabel, carryLabel}
 use Rattle.shifts.specs.Shift.{shift, shifted}
 use Rattle.moves.specs.Inner.{keepsAlong, leafKeeps, turned, back}
@@ -140,3 +142,18 @@ right-twice op = of-each row-twice (of-op row-crowded []) (right .1 .1 .1 .1 .1 
 
 pub right-crowded : (op : Op) → SetOf op 1 a b [] (answer 8 (length (made op)) 0) []
 right-crowded op = of-each row-crowded [] (right .1 .1 .1 .1 .1 .1 .1 .1 .1 .1 .1 .1 .1 .1) op [] refl
+
+-- ---- metres: the second coordinate is no number
+
+abbrev unmeasured : Move
+unmeasured = Metres (record { x = ofBits binary64 0; y = ofBits binary64 0x7ff8_0000_0000_0000; z = ofBits binary64 0; s = 3 })
+
+abbrev refused : List Row
+refused = moves 3 r057 unmeasured 3 (answer 5 1 0) [] ∷ []
+
+refused-works : allWork refused ≡ true
+unfolding topBit level proper index side start span holds along number corner allFrom early eightAt fault rounded ofBits
+refused-works = refl
+
+pub right-refused : MoveOf 3 r057 unmeasured room (answer 5 1 0) room
+right-refused = all-fit refused refused-works .0 room refl
