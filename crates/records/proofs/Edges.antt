@@ -5,7 +5,7 @@ use mathlib.Core.Logic.{⊎-elim}
 use Prim.Native.Nat.{ℕ, suc, _+_, _-_, _*_, _^_, _<_, _≤_}
 use native.Mathlib.Nat.{mul-le-mul-right, lt-of-mul-lt-mul-right, mul-assoc, suc-mul, add-mul, mul-comm}
 use native.Mathlib.Omega.{arith}
-use Rattle.cells.specs.Cell.{proper, span, start}
+use Rattle.cells.specs.Cell.{proper, span, start, end}
 use Rattle.cells.proofs.Power.{le-or-lt, pow8-suc, pow8-mono, pow8-le-inv, pow8-split}
 use Rattle.cells.proofs.Cells.{cell}
 
@@ -42,21 +42,21 @@ module _ (D c : ℕ) (p : proper D c ≡ true) where
   leaf-place : start D c ≡ at * 8 ^ high
   leaf-place = cell D c p .start≡
 
-  leaf-end : start D c + span D c ≡ at * 8 ^ high + 8 ^ high
+  leaf-end : end D c ≡ at * 8 ^ high + 8 ^ high
   leaf-end = omega (arith, leaf-place, leaf-wide)
 
   -- a leaf no bigger than the cells that the edge is of
-  pub small-before : (b n : ℕ) → span D c ≤ 8 ^ n → start D c < b * 8 ^ n → start D c + span D c ≤ b * 8 ^ n
+  pub small-before : (b n : ℕ) → span D c ≤ 8 ^ n → start D c < b * 8 ^ n → end D c ≤ b * 8 ^ n
   small-before b n h g = rw leaf-end (before-edge at high b n (pow8-le-inv high n (omega (arith, leaf-wide))) (omega (arith, leaf-place)))
 
-  pub small-after : (b n : ℕ) → span D c ≤ 8 ^ n → b * 8 ^ n < start D c + span D c → b * 8 ^ n ≤ start D c
+  pub small-after : (b n : ℕ) → span D c ≤ 8 ^ n → b * 8 ^ n < end D c → b * 8 ^ n ≤ start D c
   small-after b n h g = rw leaf-place (after-edge at high b n (pow8-le-inv high n (omega (arith, leaf-wide))) (omega (arith, leaf-end)))
 
   -- a leaf no smaller than the cell, which it meets, has all of it
   pub big-from : (b n : ℕ) → 8 ^ n ≤ span D c → start D c < b * 8 ^ n + 8 ^ n → start D c ≤ b * 8 ^ n
   big-from b n h g = rw leaf-place (after-edge b n at high (pow8-le-inv n high (omega (arith, leaf-wide))) (omega (arith, leaf-place)))
 
-  pub big-to : (b n : ℕ) → 8 ^ n ≤ span D c → b * 8 ^ n < start D c + span D c → b * 8 ^ n + 8 ^ n ≤ start D c + span D c
+  pub big-to : (b n : ℕ) → 8 ^ n ≤ span D c → b * 8 ^ n < end D c → b * 8 ^ n + 8 ^ n ≤ end D c
   big-to b n h g =
       let e : suc at * 8 ^ high ≡ at * 8 ^ high + 8 ^ high = suc-mul at (8 ^ high) in
       omega (arith, leaf-end, before-edge b n (suc at) high (pow8-le-inv n high (omega (arith, leaf-wide))) (omega (arith, leaf-end)))

@@ -8,7 +8,7 @@ use native.Mathlib.Nat.{suc-mul}
 use native.Mathlib.Omega.{arith}
 use lib.Arith.{digits-div}
 use lib.ListN.{length, getD}
-use Rattle.cells.specs.Cell.{proper, span, start, holds}
+use Rattle.cells.specs.Cell.{proper, span, start, holds, end}
 use Rattle.cells.proofs.Bools.{refuted, clash}
 use Rattle.cells.proofs.Power.{le-or-lt, pow8-pos}
 use Rattle.cells.proofs.Cells.{span-pos}
@@ -59,7 +59,7 @@ module _ {D n b : ℕ} {l : List ℕ} {s : Slot} (x : Of D l n b s) where
     leaf-proper : proper D leaf ≡ true
     leaf-proper = proper-at D l (o .ordered) (s .lo) (omega (arith, t .0, x .within))
 
-    covers : (start D leaf ≤ b * 8 ^ n) × (b * 8 ^ n + 8 ^ n ≤ start D leaf + span D leaf)
+    covers : (start D leaf ≤ b * 8 ^ n) × (b * 8 ^ n + 8 ^ n ≤ end D leaf)
     covers =
         let met = x .meets (s .lo) (omega arith) (t .0) in
         (big-from D leaf leaf-proper b n (t .1) (met .0), big-to D leaf leaf-proper b n (t .1) (met .1))
@@ -100,7 +100,7 @@ module _ {D n : ℕ} {l : List ℕ} {s : Slot} (x : OfCell D l n s) (mixed : Slo
   pub slot-low : (i : ℕ) → s .lo ≤ i → i < s .hi → x .cell * 8 ^ n ≤ start D (getD l i 0)
   slot-low i p q = small-after D (getD l i 0) (slot-proper i q) (x .cell) n (omega (arith, slot-less i p q)) (x .part .meets i p q .1)
 
-  pub slot-high : (i : ℕ) → s .lo ≤ i → i < s .hi → start D (getD l i 0) + span D (getD l i 0) ≤ x .cell * 8 ^ n + 8 ^ n
+  pub slot-high : (i : ℕ) → s .lo ≤ i → i < s .hi → end D (getD l i 0) ≤ x .cell * 8 ^ n + 8 ^ n
   slot-high i p q =
       let e = suc-mul (x .cell) (8 ^ n) in
       omega (arith, small-before D (getD l i 0) (slot-proper i q) (suc (x .cell)) n (omega (arith, slot-less i p q)) (omega (arith, x .part .meets i p q .0)))
@@ -115,7 +115,7 @@ module _ {D n : ℕ} {l : List ℕ} {s : Slot} (x : OfCell D l n s) (mixed : Slo
 
 -- a slot without a leaf, or with one leaf that has all of the cell, is also each child's
 module _ {D n b : ℕ} {l : List ℕ} {s : Slot} (x : Of D l (suc n) b s) (m : ℕ) (m<8 : m < 8) where
-  whole : ((i : ℕ) → s .lo ≤ i → i < s .hi → (start D (getD l i 0) ≤ b * 8 ^ suc n) × (b * 8 ^ suc n + 8 ^ suc n ≤ start D (getD l i 0) + span D (getD l i 0))) → Of D l n (8 * b + m) s
+  whole : ((i : ℕ) → s .lo ≤ i → i < s .hi → (start D (getD l i 0) ≤ b * 8 ^ suc n) × (b * 8 ^ suc n + 8 ^ suc n ≤ end D (getD l i 0))) → Of D l n (8 * b + m) s
   whole h = record {
     order = x .order;
     within = x .within;
@@ -128,7 +128,7 @@ module _ {D n b : ℕ} {l : List ℕ} {s : Slot} (x : Of D l (suc n) b s) (m : �
   slot-whole o false t = whole (λ i p q. absurd (omega arith))
   slot-whole o true t =
       whole
-      (λ i p q. subst (λ (j : ℕ). (start D (getD l j 0) ≤ b * 8 ^ suc n) × (b * 8 ^ suc n + 8 ^ suc n ≤ start D (getD l j 0) + span D (getD l j 0))) (alone x o t i p q) (covers x o t))
+      (λ i p q. subst (λ (j : ℕ). (start D (getD l j 0) ≤ b * 8 ^ suc n) × (b * 8 ^ suc n + 8 ^ suc n ≤ end D (getD l j 0))) (alone x o t i p q) (covers x o t))
 
 -- the cut before child m: the leaves of the part that start before it are those before place i
 pub record Cut (D : ℕ) (l : List ℕ) (b n lo hi m i : ℕ) : Type 0 where

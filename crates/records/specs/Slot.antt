@@ -4,7 +4,7 @@ use mathlib.Core.List.{List}
 use Prim.Native.Nat.{ℕ, _+_, _*_, _^_, _<_, _≤_}
 use lib.ListN.{length, getD}
 use Rattle.cells.specs.Answer.{deepest}
-use Rattle.cells.specs.Cell.{start, span}
+use Rattle.cells.specs.Cell.{start, span, end}
 use Rattle.records.specs.Record.{Ordered}
 use Rattle.records.specs.declared.inner.slots.Slot.{Slot}
 use Rattle.records.specs.declared.inner.slots.Tint.{Tint}
@@ -19,9 +19,9 @@ pub record Source (D : ℕ) (l : List ℕ) : Type 0 where
 pub record Of (D : ℕ) (l : List ℕ) (n b : ℕ) (s : Slot) : Type 0 where
   pub order : s .lo ≤ s .hi
   pub within : s .hi ≤ length l
-  pub before : (i : ℕ) → i < s .lo → start D (getD l i 0) + span D (getD l i 0) ≤ b * 8 ^ n
+  pub before : (i : ℕ) → i < s .lo → end D (getD l i 0) ≤ b * 8 ^ n
   pub after : (i : ℕ) → s .hi ≤ i → i < length l → b * 8 ^ n + 8 ^ n ≤ start D (getD l i 0)
-  pub meets : (i : ℕ) → s .lo ≤ i → i < s .hi → (start D (getD l i 0) < b * 8 ^ n + 8 ^ n) × (b * 8 ^ n < start D (getD l i 0) + span D (getD l i 0))
+  pub meets : (i : ℕ) → s .lo ≤ i → i < s .hi → (start D (getD l i 0) < b * 8 ^ n + 8 ^ n) × (b * 8 ^ n < end D (getD l i 0))
 
 -- the tint of a cell of one colour
 abbrev pub tintOf : Bool → Tint

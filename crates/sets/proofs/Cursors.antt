@@ -6,7 +6,7 @@ use Prim.Native.Nat.{ℕ, suc, _+_, _^_, _<_, _≤_}
 use native.Mathlib.Omega.{arith}
 use lib.ListN.{length, getD, drop, drop-of-length-le}
 use lib.Seq.{drop-cons}
-use Rattle.cells.specs.Cell.{proper, span, start}
+use Rattle.cells.specs.Cell.{proper, start, end}
 use Rattle.cells.proofs.Cells.{span-pos, within}
 use Rattle.records.specs.Record.{black, Ordered}
 use Rattle.records.proofs.Lists.{held, before-cell, after-cell, black-held, black-past, black-before}
@@ -54,7 +54,7 @@ module _ {D : ℕ} {l : List ℕ} {i v : ℕ} (h : i < length l) (b : Behind D l
   unfolding Ordered
   head-proper = head .0
 
-  pub points-at : {from to : ℕ} → from ≡ start D c → to ≡ start D c + span D c → Points D l (record { at = i; from = from; to = to }) v
+  pub points-at : {from to : ℕ} → from ≡ start D c → to ≡ end D c → Points D l (record { at = i; from = from; to = to }) v
   unfolding Ordered
   points-at {from} {to} e f = record {
     within = omega arith;

@@ -6,7 +6,7 @@ use mathlib.Core.Logic.{⊎-elim}
 use Prim.Native.Nat.{ℕ, _+_, _-_, _*_, _^_, _<_, _≤_}
 use native.Mathlib.Omega.{arith}
 use lib.ListN.{length, getD}
-use Rattle.cells.specs.Cell.{start, span, proper}
+use Rattle.cells.specs.Cell.{start, span, proper, end}
 use Rattle.cells.proofs.Power.{le-or-lt}
 use Rattle.cells.proofs.Cells.{span-pos}
 use Rattle.records.specs.Record.{black}
@@ -31,7 +31,7 @@ pub record Copied (D : ℕ) (l : List ℕ) (n base from : ℕ) (s : Slot) (out�
   pub top : p ≤ from + 8 ^ n
   pub first : s .lo ≤ i
   pub last : i ≤ s .hi
-  pub before : (j : ℕ) → s .lo ≤ j → j < i → start D (getD l j 0) + span D (getD l j 0) ≤ base + (p - from)
+  pub before : (j : ℕ) → s .lo ≤ j → j < i → end D (getD l j 0) ≤ base + (p - from)
   pub next : (j : ℕ) → i ≤ j → j < s .hi → base + (p - from) ≤ start D (getD l j 0)
   pub ready : Ready D r p
   pub fed : (P : ℕ → Bool) → From D l base from (8 ^ n) P → Fed D P from p out₀ r₀ out r
@@ -119,7 +119,7 @@ module _ {D n base from : ℕ} {l : List ℕ} {s : Slot} {out₀ : List ℕ} {r�
         last = omega arith;
         before = λ j a b.
             ⊎-elim
-            (λ (e : i ≤ j). let q : i ≡ j = omega arith in subst (λ (m : ℕ). start D (getD l m 0) + span D (getD l m 0) ≤ base + (place + span D leaf - from)) q (omega (arith, low)))
+            (λ (e : i ≤ j). let q : i ≡ j = omega arith in subst (λ (m : ℕ). end D (getD l m 0) ≤ base + (place + span D leaf - from)) q (omega (arith, low)))
             (λ (e : j < i). omega (arith, k .before j a e, k .next i (omega arith) here, k .low, low))
             (le-or-lt i j);
         next = λ j a b. omega (arith, in-order D 0 l (x .source .ordered) i j (omega arith) (omega (arith, x .part .within)), low);
