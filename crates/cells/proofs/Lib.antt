@@ -30,3 +30,5 @@ pub mod Sums
 -- what follows of the calls, and instances
 pub mod Theorems
 pub mod Instances
+-- the former forms of the definitions
+pub mod Former
