@@ -12,3 +12,5 @@ pub mod CallLaws
 pub mod Theorems
 pub mod Damage
 pub mod Instances
+-- the former forms of the definitions
+pub mod Former
