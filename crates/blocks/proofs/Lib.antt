@@ -12,5 +12,3 @@ pub mod CallLaws
 pub mod Theorems
 pub mod Damage
 pub mod Instances
--- the former forms of the definitions
-pub mod Former

@@ -30,5 +30,3 @@ pub mod Sums
 -- what follows of the calls, and instances
 pub mod Theorems
 pub mod Instances
--- the former forms of the definitions
-pub mod Former

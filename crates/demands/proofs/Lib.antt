@@ -18,5 +18,3 @@ pub mod Unique
 pub mod Named
 pub mod Impostors
 pub mod StoredImpostors
--- the former forms of the laws
-pub mod Former

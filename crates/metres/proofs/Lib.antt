@@ -6,5 +6,3 @@ pub mod Coordinates
 -- the outcome of a move, and how it decides in a call above
 pub mod TakenLaws
 pub mod Examples
--- the former forms of the definitions
-pub mod Former

@@ -4,5 +4,3 @@ pub mod Acceptance
 pub mod Back
 -- what follows of the call
 pub mod MoveLaws
--- the former forms of the definitions
-pub mod Former

@@ -31,5 +31,3 @@ pub mod CallLaws
 pub mod Writing
 pub mod MetLaws
 pub mod Instances
--- the former forms of the definitions
-pub mod Former

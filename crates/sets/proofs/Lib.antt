@@ -3,5 +3,3 @@ pub mod Cursors
 pub mod Pieces
 -- what follows of the calls: no second answer fits
 pub mod SetLaws
--- the former forms of the definitions
-pub mod Former

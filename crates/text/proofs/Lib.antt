@@ -5,5 +5,3 @@ pub mod Digits
 -- the calls: counted first and then written; no second answer
 pub mod CallLaws
 pub mod Instances
--- the former forms of the definitions
-pub mod Former
