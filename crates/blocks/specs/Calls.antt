@@ -5,12 +5,12 @@ use mathlib.Core.Bool.{true, false}
 use mathlib.Core.List.{List, [], _∷_}
 use Prim.Native.Nat.{ℕ, _^_}
 use lib.ListN.{length}
-use Rattle.cells.specs.Answer.{answer, given, Test, Decided, alone, refuses, refusesFirst}
+use Rattle.cells.specs.Answer.{answer, given, Test, Decided, alone, keeping, refuses, refusesFirst, deepest, TooDeep}
 use Rattle.cells.specs.declared.Answer.{Answer}
 use Rattle.records.specs.Record.{black}
 use Rattle.records.specs.Count.{count}
 use Rattle.records.specs.Fault.{Faulty}
-use Rattle.records.specs.Writing.{stands, TooShort, ListWritesOf}
+use Rattle.records.specs.Writing.{stands, TooShort, WritesOf}
 use Rattle.blocks.specs.declared.Reading.{Reading}
 use Rattle.blocks.specs.Block.{blocks, whole, soundAt, depthOf, codes}
 use Rattle.blocks.specs.File.{fileOf}
@@ -39,4 +39,4 @@ ReadOf b o r o' =
 
 -- THE CALL write, of the list l to the bytes o: the answer r and the bytes o' afterwards
 abbrev pub WriteOf : ℕ → List ℕ → List ℕ → Answer → List ℕ → Type 0
-WriteOf D l o r o' = ListWritesOf D l (fileOf D l) o r o'
+WriteOf D l o r o' = Decided (keeping o) (TooDeep deepest D ∷ Faulty D l 1 ∷ []) (WritesOf (fileOf D l) o) (r, o')

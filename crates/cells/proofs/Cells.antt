@@ -1,6 +1,6 @@
 -- The laws of a proper code. Assumes nothing.
 use mathlib.Core.Path.{_≡_, refl, sym, ap, _∙_, subst}
-use mathlib.Core.Bool.{true}
+use mathlib.Core.Bool.{Bool, true, _&&_}
 use mathlib.Core.Logic.{_⊎_, inl, inr, _↔_}
 use Prim.Native.Nat.{ℕ, zero, suc, _+_, _-_, _*_, _^_, _≤_, _<_, zero-le}
 use native.Mathlib.Nat.{mul-le-mul-right, add-mul, add-sub-cancel-left, eq-of-mul-eq-mul-right}
@@ -8,7 +8,7 @@ use native.Mathlib.Omega.{arith}
 use lib.Dec.{leb, ltb}
 use lib.Pow.{pow-add}
 use borrow.Author.Tests.{leb-true, ltb-true, le-leb, lt-ltb, lt-leb}
-use Rattle.cells.specs.Cell.{topBit, level, proper, index, start, span, end}
+use Rattle.cells.specs.Cell.{level, proper, index, start, span, end}
 use Rattle.cells.proofs.Bools.{both-true}
 use Rattle.cells.proofs.Power.{le-or-lt, pow2-suc, pow8-bits, pow8-pos, pow8-suc, pow8-lt-inv, pow8-le-inv, pow8-inj, pow8-split}
 
@@ -54,15 +54,17 @@ pub record Cell (D c : ℕ) : Type 0 where
   pub span≡ : span D c ≡ 8 ^ n
   pub start≡ : start D c ≡ i * 8 ^ n
 
+-- whether the highest one bit of c stands at place p
+abbrev pub topBit : ℕ → ℕ → Bool
+topBit p c = leb (2 ^ p) c && ltb c (2 ^ suc p)
+
 -- the highest one bit stands at place 3k exactly between the first code of level k and twice it
 pub top-bounds : (k c : ℕ) → topBit (3 * k) c ≡ true → (8 ^ k ≤ c) × (c < 2 * 8 ^ k)
-unfolding topBit
 top-bounds k c e =
     let t = both-true (leb (2 ^ (3 * k)) c) (ltb c (2 ^ suc (3 * k))) e in
     omega (arith, leb-true (2 ^ (3 * k)) c (t .0), ltb-true c (2 ^ suc (3 * k)) (t .1), pow8-bits k, pow2-suc (3 * k))
 
 pub bounds-top : (k c : ℕ) → 8 ^ k ≤ c → c < 2 * 8 ^ k → topBit (3 * k) c ≡ true
-unfolding topBit
 bounds-top k c lo hi =
     rw (le-leb (2 ^ (3 * k)) c (omega (arith, pow8-bits k)), lt-ltb c (2 ^ suc (3 * k)) (omega (arith, pow8-bits k, pow2-suc (3 * k))))
 

@@ -1,6 +1,6 @@
 -- Corners of cells: a cell is known by its level and its corner, and its corner is where its first voxel stands. Assumes nothing.
 use mathlib.Core.Path.{_≡_, refl, sym, ap, _∙_}
-use mathlib.Core.Bool.{Bool, true}
+use mathlib.Core.Bool.{Bool, true, false}
 use mathlib.Core.List.{[], _∷_}
 use Prim.Native.Nat.{ℕ, _+_, _-_, _*_, _/_, _%_, _^_, _<_, _≤_}
 use native.Mathlib.Nat.{mul-le-mul-right, eq-of-mul-eq-mul-right, add-sub-cancel-left, div-add-mod', div-lt-iff-lt-mul}
@@ -9,8 +9,9 @@ use borrow.Author.Tests.{leb-true, ltb-true, eqb-true}
 use native.Mathlib.Omega.{arith}
 use Rattle.cells.specs.Cell.{level, proper, index, side, start, span}
 use Rattle.cells.specs.Place.{EachAxis, allAxes, along, number, corner}
-use Rattle.cells.specs.Answer.{alone, deepest, TooDeep}
-use Rattle.cells.specs.Corners.{NoCell, nowhere, CellAt, onGrid, isCorner, NoCorner, PlaceOf, CodeOf}
+use Rattle.cells.specs.Answer.{answer, alone, refuses, deepest, TooDeep}
+use Rattle.cells.specs.Corners.{NoCell, nowhere, CellAt, isCorner, PlaceOf, CodeOf}
+use Rattle.cells.specs.Inner.{onGrid}
 use Rattle.cells.proofs.Decisions.{One, one-equal, one-given, one-refuses, one-decided}
 use Rattle.cells.proofs.Power.{pow2-pos, pow-split}
 use Rattle.cells.proofs.Cells.{proper-bounds, cell-of, level-le}
@@ -94,7 +95,6 @@ pub record OnGrid (w s x : ℕ) : Type 0 where
   pub multiple : x % s ≡ 0
 
 on-grid : (w s x : ℕ) → onGrid w s x ≡ true → OnGrid w s x
-unfolding onGrid
 on-grid w s x e =
     let t = both-true (ltb x w) (eqb (x % s) 0) e in
     record { root = ltb-true x w (t .0); multiple = eqb-true (x % s) 0 (t .1) }
@@ -142,4 +142,4 @@ module _ (D : ℕ) (x : ℕ → ℕ) (k : ℕ) where
   one-cell-at m n p q = one-cell D m n (p .is-proper) (q .is-proper) (p .is-level ∙ sym (q .is-level)) (λ a h. p .each a h ∙ sym (q .each a h))
 
   pub one-code : One (CodeOf D x k)
-  one-code = one-decided alone (TooDeep deepest D ∷ NoCorner D x k ∷ []) _ (one-refuses, (one-refuses, tt)) (one-given one-cell-at)
+  one-code = one-decided alone (TooDeep deepest D ∷ refuses (answer 6 0 0) (isCorner D x k ≡ false) ∷ []) _ (one-refuses, (one-refuses, tt)) (one-given one-cell-at)

@@ -5,10 +5,10 @@ use mathlib.Core.Logic.{inl, inr}
 use Prim.Native.Nat.{ℕ}
 use native.Mathlib.Omega.{arith}
 use lib.IntN.{ℤ, pos, negsuc}
-use Rattle.cells.specs.Cell.{topBit, level, proper, index, side}
+use Rattle.cells.specs.Cell.{level, proper, index, side}
 use Rattle.cells.specs.Place.{axes, along, corner}
 use Rattle.cells.specs.Answer.{answer, given}
-use Rattle.cells.specs.Corners.{onGrid, isCorner, PlaceOf, CodeOf}
+use Rattle.cells.specs.Corners.{isCorner, PlaceOf, CodeOf}
 use Rattle.cells.specs.Neighbour.{Neighbour, NeighbourOf}
 use Rattle.cells.specs.Inner.{digitOf, Direction}
 use Rattle.cells.specs.Payeur.{under, rule, carried}
@@ -23,14 +23,14 @@ use Rattle.cells.proofs.NeighbourLaws.{one-neighbour-of, missing}
 
 -- r057 at depth 3 stands at 3, 1, 3
 pub place-holds : PlaceOf 3 559 (record { answer = given 0; x = 3; y = 1; z = 3; level = 3 })
-unfolding topBit level proper along index side corner
+unfolding level proper along index side corner
 place-holds = inr (passes (λ h. omega arith), inr (passes (clash refl), refl))
 
 pub place-fails : PlaceOf 3 559 (record { answer = given 0; x = 1; y = 3; z = 3; level = 3 }) → ⊥
 place-fails h = let e : _≡_ {A = ℕ} 1 3 = ap (λ (r : Corner). r .x) (one-place 3 559 _ _ h place-holds) in omega arith
 
 pub code-holds : CodeOf 3 (axes 3 1 3) 3 (given 559)
-unfolding topBit level proper along index side corner onGrid isCorner
+unfolding level proper along index side corner isCorner
 code-holds = inr (passes (λ h. omega arith), inr (passes (clash refl), (559, record { is-proper = refl; is-level = refl; each = each-axis _ refl refl refl }, refl)))
 
 pub code-fails : CodeOf 3 (axes 3 1 3) 3 (answer 6 0 0) → ⊥
@@ -38,7 +38,7 @@ code-fails h = let e : _≡_ {A = ℕ} 6 0 = ap (λ (r : Answer). r .number) (on
 
 -- r742 with steps (-1, +1, +1), FNW, gives r675: 001's own example
 pub neighbour-holds : NeighbourOf 3 994 (axes (negsuc 0) (pos 1) (pos 1)) (given 957)
-unfolding topBit level proper along index side corner digitOf
+unfolding level proper along index side corner digitOf
 neighbour-holds =
     let n : Neighbour 3 994 (axes (negsuc 0) (pos 1) (pos 1)) 957 = record { is-proper = refl; same-level = refl; each = each-axis _ refl refl refl } in
     let d = numbered (axes (negsuc 0) (pos 1) (pos 1)) (each-axis _ (omega arith) (omega arith) (omega arith)) .good (λ e. omega arith) in
@@ -53,7 +53,7 @@ unfolding digitOf
 westward = numbered west (each-axis _ (omega arith) (omega arith) (omega arith))
 
 pub neighbour-refuses : NeighbourOf 1 8 west (answer 7 0 0)
-unfolding topBit level proper index under rule carried
+unfolding level proper index under rule carried
 neighbour-refuses =
     inr (passes (λ h. omega arith), inr (passes (clash refl), inr (passes (λ none. none (westward .good (λ e. omega arith))), inl (_, (missing 1 8 refl west 2 westward (λ e. omega arith) (λ e. omega arith), refl), refl))))
 

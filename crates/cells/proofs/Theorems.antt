@@ -11,7 +11,8 @@ use lib.IntN.{ℤ, pos, negsuc, negℤ, _*ℤ_}
 use Rattle.cells.specs.Cell.{level, proper, index, side}
 use Rattle.cells.specs.Place.{along, corner, Displaced}
 use Rattle.cells.specs.Answer.{given, deepest}
-use Rattle.cells.specs.Corners.{onGrid, isCorner, CodeOf}
+use Rattle.cells.specs.Corners.{isCorner, CodeOf}
+use Rattle.cells.specs.Inner.{onGrid}
 use Rattle.cells.specs.Neighbour.{IsDirection, Neighbour}
 use Rattle.cells.proofs.Bools.{clash}
 use Rattle.cells.proofs.Decisions.{passes, deep-enough}
@@ -23,7 +24,7 @@ use Rattle.cells.proofs.Displacements.{displaced→, displaced-back}
 -- ---- the corner of a cell is a proper corner, and gives the cell's code
 
 corner-on-grid : (b D c : ℕ) → onGrid (2 ^ D) (2 ^ (D - level D c)) (corner b D c) ≡ true
-unfolding onGrid corner side
+unfolding corner side
 corner-on-grid b D c =
     let lt : corner b D c < 2 ^ D = omega (arith, corner-lt b D c, side-pos D c) in
     rw (lt-ltb (corner b D c) (2 ^ D) lt, mul-mod-left (along b (level D c) (index D c)) (2 ^ (D - level D c)))

@@ -5,10 +5,6 @@ use Prim.Native.Nat.{ℕ, zero, suc, _+_, _-_, _*_, _^_}
 use mathlib.Core.Bool.{Bool, true, false, _&&_}
 use lib.Dec.{leb, ltb}
 
--- whether the highest one bit of c stands at place p
-unfoldable pub topBit : ℕ → ℕ → Bool
-topBit p c = leb (2 ^ p) c && ltb c (2 ^ suc p)
-
 -- the deepest level up to D whose first code, 8 ^ k, is at most c: 0 where there is none
 unfoldable pub level : ℕ → ℕ → ℕ
 level zero c = zero
@@ -16,7 +12,7 @@ level (suc k) c = elim (leb (8 ^ suc k) c) [ true ↦ suc k | false ↦ level k 
 
 -- whether c is a proper code for D: its highest one bit stands at place 3k, k at most D
 unfoldable pub proper : ℕ → ℕ → Bool
-proper D c = topBit (3 * level D c) c
+proper D c = leb (2 ^ (3 * level D c)) c && ltb c (2 ^ suc (3 * level D c))
 
 -- which of the 8 ^ k cells of its level: the labels read as base 8
 unfoldable pub index : ℕ → ℕ → ℕ

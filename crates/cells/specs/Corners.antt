@@ -25,17 +25,9 @@ PlaceOf D c =
     Decided nowhere (TooDeep deepest D ∷ NoCell D c ∷ [])
     (λ r. r ≡ record { answer = given 0; x = corner 1 D c; y = corner 2 D c; z = corner 4 D c; level = level D c })
 
--- whether a coordinate lies in a root of side w and is a multiple of s
-unfoldable pub onGrid : ℕ → ℕ → ℕ → Bool
-onGrid w s x = ltb x w && eqb (x % s) 0
-
 -- whether a corner x and a level are proper: the level is at most D, the corner lies in the root, each coordinate is a multiple of the side
 unfoldable pub isCorner : ℕ → (ℕ → ℕ) → ℕ → Bool
-isCorner D x k = leb k D && allAxes (λ a. onGrid (2 ^ D) (2 ^ (D - k)) (x a))
-
--- number 6: a corner and level that are not proper
-abbrev pub NoCorner : ℕ → (ℕ → ℕ) → ℕ → Test
-NoCorner D x k = refuses (answer 6 0 0) (isCorner D x k ≡ false)
+isCorner D x k = leb k D && allAxes (λ a. ltb (x a) (2 ^ D) && eqb (x a % 2 ^ (D - k)) 0)
 
 -- m is the cell of level k whose corner is x
 pub record CellAt (D : ℕ) (x : ℕ → ℕ) (k m : ℕ) : Type 0 where
@@ -43,6 +35,6 @@ pub record CellAt (D : ℕ) (x : ℕ → ℕ) (k m : ℕ) : Type 0 where
   pub is-level : level D m ≡ k
   pub each : EachAxis (λ a. corner (2 ^ a) D m ≡ x a)
 
--- THE CALL code: corner and level to code
+-- THE CALL code: corner and level to code; number 6 where they are not proper
 abbrev pub CodeOf : ℕ → (ℕ → ℕ) → ℕ → Answer → Type 0
-CodeOf D x k = Decided alone (TooDeep deepest D ∷ NoCorner D x k ∷ []) (λ r. (m : ℕ) × CellAt D x k m × (r ≡ given m))
+CodeOf D x k = Decided alone (TooDeep deepest D ∷ refuses (answer 6 0 0) (isCorner D x k ≡ false) ∷ []) (λ r. (m : ℕ) × CellAt D x k m × (r ≡ given m))

@@ -1,11 +1,17 @@
--- INNER: for the contracts of private and inner functions: how the code writes a direction, as document 001's tables are read (Payeur.antt), and where a search stops.
+-- INNER: for the contracts of private and inner functions: a coordinate on the grid of a level, how the code writes a direction, as document 001's tables are read
+-- (Payeur.antt), and where a search stops.
 -- Definitions only.
 use mathlib.Core.Path.{_≡_}
-use mathlib.Core.Bool.{Bool, true, false}
+use mathlib.Core.Bool.{Bool, true, false, _&&_}
 use Prim.Native.Nat.{ℕ, zero, suc, _/_, _%_, _^_, _≤_, _<_}
+use lib.Dec.{ltb, eqb}
 use lib.IntN.{ℤ, pos, negsuc}
 use Rattle.cells.specs.Place.{EachAxis}
 use Rattle.cells.specs.Neighbour.{IsDirection}
+
+-- whether a coordinate lies in a root of side w and is a multiple of s
+abbrev pub onGrid : ℕ → ℕ → ℕ → Bool
+onGrid w s x = ltb x w && eqb (x % s) 0
 
 -- a step as a digit: 0 for none, 1 for forth, 2 for back, 3 for what is no step
 unfoldable pub digitOf : ℤ → ℕ

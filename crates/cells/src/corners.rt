@@ -10,12 +10,11 @@ use crate::inner::pow8;
 use crate::inner::refusal;
 use crate::inner::success;
 ghost use mathlib.Core.Path.{_≡_};
-ghost use mathlib.Core.Bool.{true};
 ghost use Prim.Native.Nat.{_<_, _≤_};
 ghost use Rattle.cells.specs.Answer.{answer, deepest};
-ghost use Rattle.cells.specs.Cell.{proper};
-ghost use Rattle.cells.specs.Place.{axes, corner};
-ghost use Rattle.cells.specs.Corners.{nowhere, PlaceOf, CodeOf, onGrid, isCorner};
+ghost use Rattle.cells.specs.Place.{axes};
+ghost use Rattle.cells.specs.Corners.{nowhere, PlaceOf, CodeOf, isCorner};
+ghost use Rattle.cells.specs.Inner.{onGrid};
 
 // The least coordinates of a cell and its level, beside the answer. They are 0 in a refusal.
 pub struct Corner {

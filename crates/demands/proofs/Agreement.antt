@@ -15,7 +15,8 @@ use Rattle.records.specs.Fault.{allFrom, fault}
 use Rattle.records.specs.Writing.{stands}
 use Rattle.records.proofs.Fill.{all-true}
 use Rattle.records.proofs.First.{faultless-iff-good}
-use Rattle.emit.proofs.Answers.{Told, told-crowded, told-written}
+use Rattle.records.specs.Writing.{WritesListOf}
+use Rattle.records.proofs.Writing.{too-short, writes-fitting}
 use Rattle.demands.proofs.Outcomes.{Left}
 
 -- ---- equal lists and equal answers, as tests
@@ -80,9 +81,9 @@ inRoom false l = (answer 8 (length l) 0, [])
 abbrev pub roomed : ℕ → List ℕ → Left
 roomed n l = inRoom (leb (length l) n) l
 
-pub told-roomed : (D : ℕ) (Q : ℕ → Type 0) (o l : List ℕ) → ListOf D Q l → (r : Answer) (w : List ℕ) → agrees (roomed (length o) l) r w ≡ true → Told D Q o (leaving o (r, w))
-told-roomed D Q o l x r w e = subst (λ (t : Left). Told D Q o (leaving o t)) (agrees-is (roomed (length o) l) r w e) (told (leb (length l) (length o)) refl)
+pub told-roomed : (D : ℕ) (Q : ℕ → Type 0) (o l : List ℕ) → ListOf D Q l → (r : Answer) (w : List ℕ) → agrees (roomed (length o) l) r w ≡ true → WritesListOf D Q o (leaving o (r, w))
+told-roomed D Q o l x r w e = subst (λ (t : Left). WritesListOf D Q o (leaving o t)) (agrees-is (roomed (length o) l) r w e) (told (leb (length l) (length o)) refl)
   where
-    told : (t : Bool) → leb (length l) (length o) ≡ t → Told D Q o (leaving o (inRoom t l))
-    told true h = told-written D Q o l x (leb-true _ _ h)
-    told false h = told-crowded D Q o l x (leb-false _ _ h)
+    told : (t : Bool) → leb (length l) (length o) ≡ t → WritesListOf D Q o (leaving o (inRoom t l))
+    told true h = (l, x, writes-fitting l o (leb-true _ _ h))
+    told false h = (l, x, too-short l o _ refl _ _ (leb-false _ _ h) refl refl)

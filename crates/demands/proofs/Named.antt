@@ -8,7 +8,7 @@ use lib.IntN.{pos}
 use lib.ListN.{length}
 use Rattle.records.specs.Writing.{stands}
 use Rattle.cells.specs.Answer.{answer, given}
-use Rattle.cells.specs.Cell.{topBit, level, proper, index, side, start, span, holds}
+use Rattle.cells.specs.Cell.{level, proper, index, side, start, span, holds}
 use Rattle.cells.specs.Place.{along, number, corner}
 use Rattle.records.specs.Calls.{CheckOf, VolumeOf}
 use Rattle.records.specs.Count.{count}
@@ -96,7 +96,7 @@ named =
     ∷ of-op row (of-op row-twice (of-op row-crowded []))
 
 named-work : allWork named ≡ true
-unfolding topBit level proper index side start span holds along number corner count allFrom early eightAt fault black upto leaves goodList both sumLabel carryLabel shift shifted keepsAlong leafKeeps turned back
+unfolding level proper index side start span holds along number corner count allFrom early eightAt fault black upto leaves goodList both sumLabel carryLabel shift shifted keepsAlong leafKeeps turned back
 named-work = refl
 
 right : All Fits named
@@ -152,7 +152,7 @@ abbrev refused : List Row
 refused = moves 3 r057 unmeasured 3 (answer 5 1 0) [] ∷ []
 
 refused-works : allWork refused ≡ true
-unfolding topBit level proper index side start span holds along number corner allFrom early eightAt fault rounded ofBits
+unfolding level proper index side start span holds along number corner allFrom early eightAt fault rounded ofBits
 refused-works = refl
 
 pub right-refused : MoveOf 3 r057 unmeasured room (answer 5 1 0) room

@@ -1,12 +1,12 @@
 -- What the answer of a call that writes a list tells of its inputs and of what it wrote. Assumes nothing.
-use mathlib.Core.Path.{_≡_, refl, sym, ap, ap₂, _∙_, subst⁻¹}
+use mathlib.Core.Path.{_≡_, refl, sym, ap, _∙_, subst⁻¹}
 use mathlib.Core.Logic.{_⊎_, inl, inr, _↔_}
 use mathlib.Core.Bool.{true}
 use mathlib.Core.List.{List}
 use Prim.Native.Nat.{ℕ, _^_, _<_, _≤_}
 use native.Mathlib.Omega.{arith}
 use lib.IntN.{ℤ}
-use lib.ListN.{length, take, drop}
+use lib.ListN.{length, drop}
 use lib.Seq.{take-append-seam}
 use Rattle.cells.specs.Answer.{answer, given, deepest, TooDeep}
 use Rattle.cells.specs.Place.{axes, Came}
@@ -17,7 +17,7 @@ use Rattle.records.specs.Carried.{FromBlack}
 use Rattle.records.proofs.First.{faulty-numbered, not-faulty, good-passes}
 use Rattle.records.proofs.OneList.{one-list, list-same}
 use Rattle.records.proofs.Carrying.{Carrying, displacing, Accepted}
-use Rattle.emit.proofs.Answers.{Told}
+use Rattle.records.specs.Writing.{WritesListOf}
 use Rattle.moves.specs.Moves.{ShiftOf}
 use Rattle.moves.proofs.Acceptance.{accepted-exactly}
 use Rattle.demands.specs.Laws.{Carrier, move, Succeeds, Unaccepted, Roomy, wrote, Alike}
@@ -49,16 +49,16 @@ pub record Gives (D : ℕ) (Q : ℕ → Type 0) (r : Answer) (o : List ℕ) : Ty
   pub list : ListOf D Q (wrote r o)
 
 module _ (D : ℕ) (Q : ℕ → Type 0) (o o' : List ℕ) (r : Answer) where
-  pub told-gives : Told D Q o (r, o') → Roomy r → Gives D Q r o'
-  told-gives (inl (a, (l, x, h, e), f)) room = absurd (room (ap number f ∙ ap (λ (t : Answer). t .number) e))
-  told-gives (inr (_, (l, x, e, f))) room =
-      let same : wrote r o' ≡ l = ap₂ (λ (n : ℕ) (b : List ℕ). take n b) (ap (λ (t : Answer). t .place) e) f ∙ take-append-seam l (drop (length l) o) in
-      record { is-answer = e ∙ ap (λ (m : List ℕ). given (length m)) (sym same); list = subst⁻¹ (ListOf D Q) same x }
+  pub told-gives : WritesListOf D Q o (r, o') → Roomy r → Gives D Q r o'
+  told-gives (l, x, inl (a, (_, e), f)) room = absurd (room (ap number f ∙ ap (λ (t : Answer). t .number) e))
+  told-gives (l, x, inr (_, e)) room =
+      let same : wrote r o' ≡ l = ap (λ (t : Left). wrote (t .0) (t .1)) e ∙ take-append-seam l (drop (length l) o) in
+      record { is-answer = ap (λ (t : Left). t .0) e ∙ ap (λ (m : List ℕ). given (length m)) (sym same); list = subst⁻¹ (ListOf D Q) same x }
 
   -- what is told past the tests of a carrier is not 7
-  pub told-accepted : Told D Q o (r, o') → Unaccepted r → ⊥
-  told-accepted (inl (a, (l, x, h, e), f)) z = let g : _≡_ {A = ℕ} 8 7 = sym (ap number f ∙ ap (λ (t : Answer). t .number) e) ∙ z in omega arith
-  told-accepted (inr (_, (l, x, e, f))) z = let g : _≡_ {A = ℕ} 0 7 = sym (ap (λ (t : Answer). t .number) e) ∙ z in omega arith
+  pub told-accepted : WritesListOf D Q o (r, o') → Unaccepted r → ⊥
+  told-accepted (l, x, inl (a, (_, e), f)) z = let g : _≡_ {A = ℕ} 8 7 = sym (ap number f ∙ ap (λ (t : Answer). t .number) e) ∙ z in omega arith
+  told-accepted (l, x, inr (_, e)) z = let g : _≡_ {A = ℕ} 0 7 = sym (ap number e) ∙ z in omega arith
 
   pub gives-success : Gives D Q r o' → Succeeds r
   gives-success g = ap (λ (t : Answer). t .number) (g .is-answer)
@@ -74,7 +74,7 @@ same-set-alike D P Q r o s p same x y =
 module _ (D : ℕ) (l : List ℕ) (R : ℕ → ℕ → Type 0) (o o' : List ℕ) (r : Answer) where
   -- on a good list it is not accepted, or each black voxel stays and the list is written where there is room
   abbrev pub Outcome : Type 0
-  Outcome = (Unaccepted r × (Accepted D R l → ⊥)) ⊎ (Accepted D R l × Told D (FromBlack D R l) o (r, o'))
+  Outcome = (Unaccepted r × (Accepted D R l → ⊥)) ⊎ (Accepted D R l × WritesListOf D (FromBlack D R l) o (r, o'))
 
   -- what success says
   pub record Moved : Type 0 where
@@ -132,7 +132,7 @@ Of T D a b v = T (black D a v ≡ true) (black D b v ≡ true)
 
 module _ (T : Type 0 → Type 0 → Type 0) (D : ℕ) (a b o o' : List ℕ) (r : Answer) where
   -- on good lists
-  pub combine-told : D ≤ deepest → Good D a → Good D b → Combines T D a b o r o' → Told D (Of T D a b) o (r, o')
+  pub combine-told : D ≤ deepest → Good D a → Good D b → Combines T D a b o r o' → WritesListOf D (Of T D a b) o (r, o')
   combine-told h g k (inl (x, t, _)) = absurd (not-deep D h x t)
   combine-told h g k (inr (_, inl (x, t, _))) = absurd (good-passes D a 1 g x t)
   combine-told h g k (inr (_, inr (_, inl (x, t, _)))) = absurd (good-passes D b 2 k x t)

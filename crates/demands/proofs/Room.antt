@@ -11,15 +11,15 @@ use Rattle.cells.specs.Place.{Came}
 use Rattle.cells.specs.declared.Answer.{Answer}
 use Rattle.records.specs.Record.{Good}
 use Rattle.records.proofs.Most.{most, most-leaves}
-use Rattle.emit.proofs.Answers.{Told}
+use Rattle.records.specs.Writing.{WritesListOf}
 use Rattle.sets.specs.declared.Op.{Op}
 use Rattle.sets.specs.Sets.{Chosen, SetOf}
 use Rattle.demands.specs.Laws.{move, Roomy}
 use Rattle.demands.proofs.Outcomes.{displacement, Outcome, move-carries, combine-told}
 
-told-roomy : (D : ℕ) (Q : ℕ → Type 0) (o o' : List ℕ) (r : Answer) → most D ≤ length o → Told D Q o (r, o') → Roomy r
-told-roomy D Q o o' r room (inl (a, (l, x, h, e), f)) z = omega (arith, most-leaves D l (x .good))
-told-roomy D Q o o' r room (inr (_, (l, x, e, f))) z = let g : _≡_ {A = ℕ} 0 8 = sym (ap (λ (a : Answer). a .number) e) ∙ z in omega arith
+told-roomy : (D : ℕ) (Q : ℕ → Type 0) (o o' : List ℕ) (r : Answer) → most D ≤ length o → WritesListOf D Q o (r, o') → Roomy r
+told-roomy D Q o o' r room (l, x, inl (a, (h, _), _)) z = omega (arith, most-leaves D l (x .good))
+told-roomy D Q o o' r room (l, x, inr (_, e)) z = let g : _≡_ {A = ℕ} 0 8 = sym (ap (λ (t : Answer × List ℕ). t .0 .number) e) ∙ z in omega arith
 
 module _ (D : ℕ) (o o' : List ℕ) (r : Answer) (shallow : D ≤ deepest) (room : most D ≤ length o) where
   pub move-roomy : (l : List ℕ) (d : ℕ → ℤ) → Good D l → move D l d o r o' → Roomy r

@@ -2,7 +2,7 @@
 use mathlib.Core.Path.{_≡_, refl}
 use mathlib.Core.Bool.{true}
 use lib.Ieee.{ofBits}
-use Rattle.cells.specs.Cell.{topBit, level, proper, index, side, start, span, holds}
+use Rattle.cells.specs.Cell.{level, proper, index, side, start, span, holds}
 use Rattle.cells.specs.Inner.{digitOf}
 use Rattle.cells.specs.Payeur.{under, rule, stepped, carried}
 use Rattle.cells.specs.Place.{along, number, corner}
@@ -19,7 +19,7 @@ use Rattle.demands.specs.Examples.{Fits, All, table}
 use Rattle.demands.proofs.Worked.{allWork, all-fit}
 
 all-work : allWork table ≡ true
-unfolding topBit level proper index side start span holds digitOf under rule stepped carried along number corner count allFrom early eightAt fault black upto leaves goodList both rounded ofBits sumLabel carryLabel shift shifted keepsAlong leafKeeps turned back
+unfolding level proper index side start span holds digitOf under rule stepped carried along number corner count allFrom early eightAt fault black upto leaves goodList both rounded ofBits sumLabel carryLabel shift shifted keepsAlong leafKeeps turned back
 all-work = refl
 
 pub starred : All Fits table

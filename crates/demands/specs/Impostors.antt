@@ -8,15 +8,14 @@ use Rattle.cells.specs.Answer.{Decided, keeping, deepest, TooDeep}
 use Rattle.cells.specs.Place.{axes}
 use Rattle.records.specs.Record.{black}
 use Rattle.records.specs.Fault.{Faulty}
-use Rattle.records.specs.Writing.{Crowded, Written}
+use Rattle.records.specs.Writing.{WritesListOf}
 use Rattle.demands.specs.Laws.{Carrier, Combiner, move}
 
 -- A call with the tests of join, intersect and subtract, that gives the good list of the voxels that T takes, from whether they are black in the first list and in the
 -- second. `SetOf op` is `Combines (Chosen op)`.
 abbrev pub Combines : (Type 0 → Type 0 → Type 0) → Combiner
 Combines T D a b o r o' =
-    let Q : ℕ → Type 0 = λ v. T (black D a v ≡ true) (black D b v ≡ true) in
-    Decided (keeping o) (TooDeep deepest D ∷ Faulty D a 1 ∷ Faulty D b 2 ∷ Crowded D Q o ∷ []) (Written D Q o) (r, o')
+    Decided (keeping o) (TooDeep deepest D ∷ Faulty D a 1 ∷ Faulty D b 2 ∷ []) (WritesListOf D (λ v. T (black D a v ≡ true) (black D b v ≡ true)) o) (r, o')
 
 -- a join that is its first list, and an intersection that is its second
 abbrev pub firstList : Combiner

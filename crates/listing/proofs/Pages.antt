@@ -18,7 +18,7 @@ use Rattle.blocks.specs.Calls.{Unsound, ReadOf}
 use Rattle.blocks.specs.Inner.{Sound}
 use Rattle.blocks.specs.declared.Reading.{Reading}
 use Rattle.blocks.proofs.Sound.{all-blocks, codes-most, one-unsound, not-unsound}
-use Rattle.text.specs.Text.{pathLines, listing, textOf, TextOf, refusedText, RefusedOf}
+use Rattle.text.specs.Text.{pathLines, textOf, TextOf, refusedText, RefusedOf}
 use Rattle.text.specs.Inner.{headLine}
 use Rattle.text.proofs.CallLaws.{one-text, one-refused}
 use Rattle.text.proofs.Digits.{paths-length, head-length, refused-length}
@@ -30,7 +30,7 @@ pub few-codes : (b : List ℕ) → Sound b → length b ≤ longest → length (
 few-codes b s h = omega (arith, codes-most b s, all-blocks b s)
 
 pub text-length : (D : ℕ) (l : List ℕ) → D ≤ deepest → length (textOf D l) ≤ 83 + 12 * length l
-unfolding listing
+unfolding textOf
 text-length D l h =
     let v = count (black D l) (8 ^ D) in
     omega (arith, length-append (headLine D (length l) v) (pathLines D l), head-length D (length l) v, paths-length D l h)

@@ -7,16 +7,20 @@ use Prim.Native.Nat.{ℕ, _*_, _^_, _≤_, _<_}
 use native.Mathlib.Omega.{arith}
 use mathlib.Core.Bool.{Bool, true, false, not, cond}
 use lib.IntN.{ℤ, pos, negsuc, negℤ}
+use lib.Signed.{_≤ℤ_, _<ℤ_}
 use lib.Dec.{T, leb→le, ltb→lt, nltb→le, nleb→lt}
 use lib.Ieee.{Float, nan, inf, fin, up, down}
 use Rattle.metres.specs.declared.inner.Coordinate.{Coordinate}
 use Rattle.metres.specs.declared.inner.Coordinate.the-variants.{Voxels, Bad}
-use Rattle.metres.specs.Metres.{signed, Nearest, In32, Whole}
+use Rattle.metres.specs.Metres.{signed, Nearest, Whole}
 use Rattle.metres.specs.Inner.{Rounded, inRange, fitted}
 use Rattle.cells.proofs.Integers.{above, below, le→, →le, lt→, →lt, above-neg, below-neg}
 use Rattle.metres.proofs.NearestLaws.{nearest-unique, nearest-exists, nearest-far, size}
 
--- ---- the range
+-- ---- the range: n is a signed 32-bit number
+abbrev pub In32 : ℤ → Type 0
+In32 n = (negℤ (pos (2 ^ 31)) ≤ℤ n) × (n <ℤ pos (2 ^ 31))
+
 pub in32-bounds : (n : ℤ) → In32 n → (above n < 2 ^ 31) × (below n ≤ 2 ^ 31)
 in32-bounds (pos a) h = let u = lt→ (pos a) (pos (2 ^ 31)) (h .1) in (omega arith, omega arith)
 in32-bounds (negsuc a) h = let l = le→ (negℤ (pos (2 ^ 31))) (negsuc a) (h .0) in (omega arith, omega arith)
@@ -52,8 +56,8 @@ unfolding Rounded
 rounded-fitted s d t k h = go (inRange t k) (in32-yes t k) (in32-no t k)
   where
     go : (b : Bool) → (T b → In32 (signed t k)) → (T (not b) → In32 (signed t k) → ⊥) → Rounded s d (cond b (Voxels (signed t k)) Bad)
-    go true f g = (h, f tt)
-    go false f g = λ n w. g tt (subst In32 (nearest-unique s d n (signed t k) (w .0) h) (w .1))
+    go true f g = (h, f tt .0, f tt .1)
+    go false f g = λ n w. g tt (subst In32 (nearest-unique s d n (signed t k) (w .0) h) (w .1, w .2))
 
 -- the outcome for every float, computed
 unfoldable pub rounded : ℕ → Float → Coordinate
@@ -69,4 +73,4 @@ rounded-exists s (fin t m e) = rounded-fitted s (fin t m e) t (size s t m e) (ne
 
 pub far-is-bad : (s : ℕ) (t : Bool) (m : ℕ) (e : ℤ) → 2 ^ 32 * down e ≤ m * up e → Rounded s (fin t m e) Bad
 unfolding Rounded
-far-is-bad s t m e h = λ n w. let b = in32-bounds n (w .1) in nearest-far s t m e n h (b .0) (b .1) (w .0)
+far-is-bad s t m e h = λ n w. let b = in32-bounds n (w .1, w .2) in nearest-far s t m e n h (b .0) (b .1) (w .0)

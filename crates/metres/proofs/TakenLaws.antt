@@ -22,7 +22,7 @@ use Rattle.metres.specs.declared.inner.Coordinate.{Coordinate}
 use Rattle.metres.specs.declared.inner.Coordinate.the-variants.{Voxels, Bad}
 use Rattle.metres.specs.declared.inner.Taken.{Taken}
 use Rattle.metres.specs.declared.inner.Taken.the-variants as TakenV
-use Rattle.metres.specs.Metres.{Whole, NoWhole, finest, coordinates, moveTests, Becomes}
+use Rattle.metres.specs.Metres.{Whole, finest, coordinates, moveTests, Becomes}
 use Rattle.metres.specs.Taken.{told, TakenOf}
 use Rattle.metres.specs.Inner.{Rounded, together}
 use Rattle.metres.proofs.Rounding.{one-whole}
@@ -35,7 +35,7 @@ module _ (m : Metres) (low : m .s ≤ finest) where
   Good a = (n : ℤ) × Whole (m .s) (coordinates m a) n
 
   -- the first bad coordinate, where those before it are good
-  first-bad : (a : ℕ) → a < 3 → NoWhole (m .s) (coordinates m a) → ((b : ℕ) → b < a → Good b) → TakenOf m (TakenV.Bad a)
+  first-bad : (a : ℕ) → a < 3 → ((n : ℤ) → Whole (m .s) (coordinates m a) n → ⊥) → ((b : ℕ) → b < a → Good b) → TakenOf m (TakenV.Bad a)
   first-bad a h none good = inr (passes (λ h. omega arith), inl (_, (a, record { below = h; here = none; before = λ b l bad. bad (good b l .0) (good b l .1) }, refl), refl))
 
   pub together-taken : (a b c : Coordinate) → Rounded (m .s) (m .x) a → Rounded (m .s) (m .y) b → Rounded (m .s) (m .z) c → TakenOf m (together a b c)

@@ -3,6 +3,7 @@ use Prim.Native.Nat.{ℕ, _+_, _*_, _/_, _^_, _≤_, _<_}
 use mathlib.Core.Path.{_≡_}
 use mathlib.Core.Bool.{Bool, true, false, cond}
 use lib.Dec.{leb, ltb}
+use lib.IntN.{ℤ}
 use lib.Ieee.{Float, neg}
 use lib.Ieee.Positive.{num, den}
 use Rattle.metres.specs.declared.inner.Coordinate.{Coordinate}
@@ -10,12 +11,12 @@ use Rattle.metres.specs.declared.inner.Coordinate.the-variants.{Voxels, 
 use Rattle.metres.specs.declared.inner.Halves.{Halves}
 use Rattle.metres.specs.declared.inner.Taken.{Taken}
 use Rattle.metres.specs.declared.inner.Taken.the-variants as TakenV
-use Rattle.metres.specs.Metres.{signed, Whole, NoWhole}
+use Rattle.metres.specs.Metres.{signed, Whole}
 
 -- what the coordinate d becomes at the edge number s
 unfoldable pub Rounded : ℕ → Float → Coordinate → Type 0
 Rounded s d (Voxels n) = Whole s d n
-Rounded s d Bad = NoWhole s d
+Rounded s d Bad = (n : ℤ) → Whole s d n → ⊥
 
 -- h is the size of the coordinate a, which is num a / den a metres, in half voxels of the edge 2^-s: so many whole ones, and whether there is something more
 pub record Measured (s : ℕ) (a : Float) (h : Halves) : Type 0 where

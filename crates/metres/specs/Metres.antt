@@ -32,17 +32,9 @@ Nearest s (inf t) n = ⊥
 Nearest s (fin t m e) n =
     (((pos 2 *ℤ n -ℤ pos 1) *ℤ pos (down e)) ≤ℤ doubled s t m e) × (doubled s t m e <ℤ ((pos 2 *ℤ n +ℤ pos 1) *ℤ pos (down e)))
 
--- n is a signed 32-bit number: -2^31 <= n < 2^31
-abbrev pub In32 : ℤ → Type 0
-In32 n = (negℤ (pos (2 ^ 31)) ≤ℤ n) × (n <ℤ pos (2 ^ 31))
-
--- the coordinate d becomes n voxels of the edge 2^-s
+-- the coordinate d becomes n voxels of the edge 2^-s: the nearest number, where it is a signed 32-bit one, -2^31 <= n < 2^31
 abbrev pub Whole : ℕ → Float → ℤ → Type 0
-Whole s d n = Nearest s d n × In32 n
-
--- it becomes no number of voxels
-abbrev pub NoWhole : ℕ → Float → Type 0
-NoWhole s d = (n : ℤ) → Whole s d n → ⊥
+Whole s d n = Nearest s d n × (negℤ (pos (2 ^ 31)) ≤ℤ n) × (n <ℤ pos (2 ^ 31))
 
 -- the greatest edge number
 abbrev pub finest : ℕ
@@ -52,10 +44,11 @@ finest = 10
 abbrev pub coordinates : Metres → ℕ → Float
 coordinates m = axes (m .x) (m .y) (m .z)
 
--- number 5: metres with an edge number above the greatest, place 3; else the first bad coordinate x, y, z, places 0, 1, 2. Whole voxels are never bad.
+-- number 5: metres with an edge number above the greatest, place 3; else the first coordinate x, y, z that becomes no number of
+-- voxels, places 0, 1, 2. Whole voxels are never bad.
 abbrev pub moveTests : Move → List Test
 moveTests (Voxels i j k) = []
-moveTests (the-move.Metres m) = refuses (answer 5 3 0) (finest < m .s) ∷ refusesFirst 3 (λ a. NoWhole (m .s) (coordinates m a)) (λ a. answer 5 a 0) ∷ []
+moveTests (the-move.Metres m) = refuses (answer 5 3 0) (finest < m .s) ∷ refusesFirst 3 (λ a. (n : ℤ) → Whole (m .s) (coordinates m a) n → ⊥) (λ a. answer 5 a 0) ∷ []
 
 -- d is the whole voxels that a move becomes, by axis
 abbrev pub Becomes : Move → (ℕ → ℤ) → Type 0

@@ -15,12 +15,12 @@ use Rattle.cells.proofs.Decisions.{One, Ones, one-refuses, one-refuses-first, o
 use Rattle.records.specs.Record.{Ordered, Good, ListOf}
 use Rattle.records.specs.Fault.{allFrom, Faulty}
 use Rattle.records.specs.Carried.{FromBlack, Straying}
-use Rattle.records.specs.Writing.{Crowded, Written}
+use Rattle.records.specs.Writing.{WritesListOf}
 use Rattle.records.proofs.First.{good-passes}
 use Rattle.records.proofs.Fill.{all-true, goodList}
 use Rattle.records.proofs.OneList.{good-list, list-same}
 use Rattle.records.proofs.Carrying.{Accepted, accepted-passes}
-use Rattle.emit.proofs.Answers.{Told, one-crowded, one-written}
+use Rattle.emit.proofs.Answers.{one-list-written}
 use Rattle.metres.specs.Metres.{moveTests}
 use Rattle.metres.specs.declared.Move.{Move}
 use Rattle.metres.specs.declared.Move.the-variants as MoveV
@@ -59,15 +59,13 @@ module _ (D : ℕ) (l : List ℕ) (d : ℕ → ℤ) where
     strays-told buffer n h e f = inl (_, (n, first-strays D d (splitOf d) (splits-of d) l o (record { below = h; here = f; before = λ j k no. clash (stays n e j k) no }), refl), refl)
 
   -- else the room decides
-  pub room-told : (buffer : List ℕ) (t : Answer × List ℕ) → Accepted D (Came D d) l → Told D (FromBlack D (Came D d) l) buffer t → ShiftOf D l d buffer t
+  pub room-told : (buffer : List ℕ) (t : Answer × List ℕ) → Accepted D (Came D d) l → WritesListOf D (FromBlack D (Came D d) l) buffer t → ShiftOf D l d buffer t
   room-told buffer t ok told = inr (accepted-passes D (Came D d) l ok, told)
 
 -- ---- no second answer
 
 pub one-shift : (D : ℕ) (l : List ℕ) (d : ℕ → ℤ) (o : List ℕ) → One (ShiftOf D l d o)
-one-shift D l d o =
-    let Q = FromBlack D (Came D d) l in
-    one-decided (keeping o) (Straying D (Came D d) l ∷ Crowded D Q o ∷ []) (Written D Q o) (one-refuses-first, (one-crowded D Q o, tt)) (one-written D Q o)
+one-shift D l d o = one-decided (keeping o) (Straying D (Came D d) l ∷ []) _ (one-refuses-first, tt) (one-list-written D (FromBlack D (Came D d) l) o)
 
 pub one-move : (D : ℕ) (l : List ℕ) (m : Move) (o : List ℕ) → One (λ (t : Answer × List ℕ). MoveOf D l m o (t .0) (t .1))
 one-move D l m o = one-decided (keeping o) (TooDeep deepest D ∷ Faulty D l 1 ∷ moveTests m) _ (one-refuses, (one-refuses-first, tests m)) whole

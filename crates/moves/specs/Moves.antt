@@ -8,15 +8,13 @@ use Rattle.cells.specs.Place.{axes, Came}
 use Rattle.cells.specs.declared.Answer.{Answer}
 use Rattle.records.specs.Fault.{Faulty}
 use Rattle.records.specs.Carried.{FromBlack, Straying}
-use Rattle.records.specs.Writing.{Crowded, Written}
+use Rattle.records.specs.Writing.{WritesListOf}
 use Rattle.metres.specs.Metres.{moveTests, Becomes}
 use Rattle.metres.specs.declared.Move.{Move}
 
 -- a move by the displacement d: a voxel is carried to the one that it comes to
 abbrev pub ShiftOf : ℕ → List ℕ → (ℕ → ℤ) → List ℕ → Answer × List ℕ → Type 0
-ShiftOf D l d o =
-    Decided (keeping o) (Straying D (Came D d) l ∷ Crowded D (FromBlack D (Came D d) l) o ∷ [])
-    (Written D (FromBlack D (Came D d) l) o)
+ShiftOf D l d o = Decided (keeping o) (Straying D (Came D d) l ∷ []) (WritesListOf D (FromBlack D (Came D d) l) o)
 
 -- a move by the whole voxels that m becomes
 abbrev pub ByVoxels : ℕ → List ℕ → Move → List ℕ → Answer × List ℕ → Type 0

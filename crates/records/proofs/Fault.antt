@@ -11,7 +11,7 @@ use lib.ListN.{length, getD}
 use borrow.Author.Tests.{ltb-false, le-leb, lt-leb, le-ltb, eqb-true, eq-eqb}
 use Rattle.cells.specs.Cell.{level, proper, start, span, end}
 use Rattle.records.specs.Record.{Ordered, Condensed, Good}
-use Rattle.records.specs.Fault.{allFrom, early, eightAt, numbered, fault}
+use Rattle.records.specs.Fault.{allFrom, early, eightAt, fault}
 use Rattle.cells.proofs.Power.{le-or-lt, pow8-pos}
 use Rattle.cells.proofs.Bools.{both-true, refuted}
 use Rattle.cells.proofs.Cells.{proper-bounds, span-pos, child, parent}
@@ -120,16 +120,33 @@ condensed-of D from l o h p all =
 
 -- ---- the faults
 
+-- the number of the first test that fails: whether the code is proper, whether the leaf is early, whether it completes eight siblings; 0 where none does
+abbrev pub numbered : Bool → Bool → Bool → ℕ
+numbered false e s = 2
+numbered true true s = 3
+numbered true false true = 4
+numbered true false false = 0
+
 numbered-zero : (x y z : Bool) → numbered x y z ≡ 0 → (x ≡ true) × (y ≡ false) × (z ≡ false)
 numbered-zero false y z e = absurd (omega arith)
 numbered-zero true true z e = absurd (omega arith)
 numbered-zero true false true e = absurd (omega arith)
 numbered-zero true false false e = (refl, refl, refl)
 
+-- it is the fault's
+pub fault-numbered : (D : ℕ) (l : List ℕ) (i : ℕ) → fault D l i ≡ numbered (proper D (getD l i 0)) (early D l i) (leb 7 i && eightAt l (i - 7))
+unfolding fault
+fault-numbered D l i = table (proper D (getD l i 0)) (early D l i) (leb 7 i && eightAt l (i - 7))
+  where
+    table : (p e s : Bool) → elim p [ false ↦ 2 | true ↦ elim e [ true ↦ 3 | false ↦ elim s [ true ↦ 4 | false ↦ 0 ] ] ] ≡ numbered p e s
+    table false e s = refl
+    table true true s = refl
+    table true false true = refl
+    table true false false = refl
+
 -- what an index without a fault says
 pub no-fault : (D : ℕ) (l : List ℕ) (i : ℕ) → fault D l i ≡ 0 → (proper D (getD l i 0) ≡ true) × (early D l i ≡ false) × ((leb 7 i && eightAt l (i - 7)) ≡ false)
-unfolding fault
-no-fault D l i e = numbered-zero _ _ _ e
+no-fault D l i e = numbered-zero _ _ _ (sym (fault-numbered D l i) ∙ e)
 
 -- the test for order at an index after the first
 pub not-early : (D : ℕ) (l : List ℕ) (i : ℕ) → early D l (suc i) ≡ ltb (start D (getD l (suc i) 0)) (end D (getD l i 0))
@@ -153,8 +170,8 @@ faultless-good D l h = record { ordered = order; condensed = condensed-of D 0 l 
         rw (le-leb 7 (a + 7) (omega arith), back) at t
 
 pub good-faultless : (D : ℕ) (l : List ℕ) → Good D l → (i : ℕ) → i < length l → fault D l i ≡ 0
-unfolding fault early
-good-faultless D l g i h = rw (member D 0 l (getD l i 0) (g .ordered) (member-at l i h) .0, turn i h, eight i h)
+unfolding early
+good-faultless D l g i h = rw (fault-numbered D l i, member D 0 l (getD l i 0) (g .ordered) (member-at l i h) .0, turn i h, eight i h)
   where
     turn : (i : ℕ) → i < length l → early D l i ≡ false
     turn zero h = refl

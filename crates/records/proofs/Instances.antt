@@ -9,7 +9,7 @@ use lib.Dec.{lit<, lit≤, eqb, eqb→eq}
 use lib.IntN.{pos}
 use lib.ListN.{length, getD}
 use Rattle.cells.specs.Answer.{answer, given}
-use Rattle.cells.specs.Cell.{topBit, level, proper, index, side, start, span, holds, end}
+use Rattle.cells.specs.Cell.{level, proper, index, side, start, span, holds, end}
 use Rattle.cells.specs.Place.{axes, along, corner, number}
 use Rattle.cells.specs.Neighbour.{Neighbour, NeighbourOf}
 use Rattle.cells.specs.Inner.{digitOf}
@@ -41,7 +41,7 @@ alone-good D c e k a (zero, f, _) = f .here e
 alone-good D c e k a (suc i, f, _) = absurd (omega (arith, f .below))
 
 none-faulty : (a : Answer) → Faulty 3 one 1 a → ⊥
-unfolding topBit level proper early fault
+unfolding level proper early fault
 none-faulty = alone-good 3 559 refl 1
 
 pub check-holds : CheckOf 3 one (given 1)
@@ -71,7 +71,7 @@ abbrev eight : List ℕ
 eight = 8 ∷ 9 ∷ 10 ∷ 11 ∷ 12 ∷ 13 ∷ 14 ∷ 15 ∷ []
 
 pub check-refuses : CheckOf 1 eight (answer 4 7 1)
-unfolding topBit level proper index span start early allFrom eightAt fault
+unfolding level proper index span start early allFrom eightAt fault
 check-refuses = inr (passes (λ h. omega arith), inl (_, (7, record { below = lit< tt; here = λ e. omega arith; before = before }, refl), refl))
   where
     before : (j : ℕ) → j < 7 → (fault 1 eight j ≡ 0 → ⊥) → ⊥
@@ -86,13 +86,13 @@ abbrev two : List ℕ
 two = 8 ∷ 10 ∷ []
 
 sound : (a : Answer) → Faulty 2 two 1 a → ⊥
-unfolding topBit level proper index span start early fault
+unfolding level proper index span start early fault
 sound a (zero, f, _) = f .here refl
 sound a (suc zero, f, _) = f .here refl
 sound a (suc (suc i), f, _) = absurd (omega (arith, f .below))
 
 north : Neighbour 2 67 (axes (pos 0) (pos 1) (pos 0)) 81
-unfolding topBit level proper along index side corner
+unfolding level proper along index side corner
 north = record { is-proper = refl; same-level = refl; each = each-axis _ refl refl refl }
 
 r0-before : end 2 8 ≤ start 2 81
@@ -116,13 +116,13 @@ bigger = part-made 2 two 81 1 1 (lit≤ tt) before (λ i a b. absurd (omega arit
     inside (suc (suc i)) a b = absurd (omega arith)
 
 meeting : MeetingOf 2 two 67 (axes (pos 0) (pos 1) (pos 0)) (record { answer = given 1; at = 1; n = 1 })
-unfolding topBit level proper digitOf
+unfolding level proper digitOf
 meeting =
     let d = numbered (axes (pos 0) (pos 1) (pos 0)) (each-axis _ (omega arith) (omega arith) (omega arith)) .good (λ e. omega arith) in
     inr (passes (λ h. omega arith), inr (sound, inr (passes (clash refl), inr (passes (λ none. none d), inr (passes (λ none. none 81 north), (81, north, bigger, refl))))))
 
 pub met-holds : MetOf 2 two (5, 0) 67 (axes (pos 0) (pos 1) (pos 0)) (10 ∷ []) (5, 4)
-met-holds = record { meeting = _; found = meeting; codes = refl; memory = refl; begins = refl }
+met-holds = record { meeting = _; found = meeting; codes = refl; begins = refl }
 
 pub met-fails : MetOf 2 two (5, 0) 67 (axes (pos 0) (pos 1) (pos 0)) [] (5, 0) → ⊥
 met-fails h = let e : _≡_ {A = ℕ} 0 1 = ap length (one-met 2 two 67 (axes (pos 0) (pos 1) (pos 0)) (5, 0) [] (10 ∷ []) (5, 0) (5, 4) h met-holds .0) in omega arith
@@ -139,15 +139,15 @@ abbrev r1 : List ℕ
 r1 = 9 ∷ []
 
 outside : (m : ℕ) → Neighbour 1 8 west m → ⊥
-unfolding topBit level proper
+unfolding level proper
 outside m n =
     let given-m : NeighbourOf 1 8 west (given m) = inr (passes (λ h. omega arith), inr (passes (clash refl), inr (passes (λ none. none (westward .good (λ e. omega arith))), inr (passes (λ none. none m n), (m, n, refl))))) in
     let e : _≡_ {A = ℕ} 0 7 = ap (λ (r : Answer). r .number) (one-neighbour-of 1 8 west _ _ given-m neighbour-refuses) in
     omega arith
 
 pub met-refuses : MetOf 1 r1 (5, 8) 8 west [] (5, 8)
-unfolding topBit level proper early fault
-met-refuses = record { meeting = unmet (answer 7 0 0); found = refused; codes = refl; memory = refl; begins = refl }
+unfolding level proper early fault
+met-refuses = record { meeting = unmet (answer 7 0 0); found = refused; codes = refl; begins = refl }
   where
     refused : MeetingOf 1 r1 8 west (unmet (answer 7 0 0))
     refused = inr (passes (λ h. omega arith), inr (alone-good 1 9 refl 1, inr (passes (clash refl), inr (passes (λ none. none (westward .good (λ e. omega arith))), inl (_, (outside, refl), refl)))))

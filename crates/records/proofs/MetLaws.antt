@@ -43,5 +43,5 @@ module _ (D : ℕ) (l : List ℕ) (c : ℕ) (d : ℕ → ℤ) where
   one-met p r s a b x y =
       let e : x .meeting ≡ y .meeting = one-meeting (x .meeting) (y .meeting) (x .found) (y .found) in (
         x .codes ∙ ap (λ (t : Meeting). take (t .n) (drop (t .at) l)) e ∙ sym (y .codes),
-        ap₂ (λ (u v : ℕ). (u, v)) (x .memory ∙ sym (y .memory)) (x .begins ∙ ap (λ (t : Meeting). p .1 + t .at * 4) e ∙ sym (y .begins)),
+        x .begins ∙ ap (λ (t : Meeting). (p .0, p .1 + t .at * 4)) e ∙ sym (y .begins),
       )

@@ -15,12 +15,12 @@ use Rattle.cells.specs.declared.Answer.{Answer}
 use Rattle.cells.proofs.Firsts.{first-more}
 use Rattle.cells.specs.Cell.{proper, start, span, end}
 use Rattle.records.specs.Record.{Good}
-use Rattle.records.specs.Fault.{early, numbered, fault, Faulty}
+use Rattle.records.specs.Fault.{early, fault, Faulty}
 use Rattle.records.specs.Inner.{volume}
 use Rattle.records.specs.Walk.{lastOf, pastOf, voxels, nextRun, runOf, Faultless, Walked}
 use Rattle.records.specs.declared.inner.Walk.{Walk}
 use Rattle.cells.proofs.Cells.{within, span-pos}
-use Rattle.records.proofs.Fault.{not-early, faultless-good}
+use Rattle.records.proofs.Fault.{numbered, fault-numbered, not-early, faultless-good}
 use Rattle.records.proofs.First.{good-passes}
 use Rattle.records.proofs.Rows.{eight-run}
 
@@ -32,8 +32,7 @@ early-past D l zero = sym (le-ltb (start D (getD l 0 0)) 0 zero-le)
 early-past D l (suc i) = not-early D l i
 
 fault-is : (D : ℕ) (l : List ℕ) (i : ℕ) → fault D l i ≡ numbered (proper D (getD l i 0)) (ltb (start D (getD l i 0)) (pastOf D l i)) (eqb (runOf l (suc i)) 8)
-unfolding fault
-fault-is D l i = rw (early-past D l i, eight-run l i)
+fault-is D l i = rw (fault-numbered D l i, early-past D l i, eight-run l i)
 
 -- ---- the walk's beginning and a step: c is the next code
 

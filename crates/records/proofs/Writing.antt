@@ -7,12 +7,12 @@ use native.Mathlib.Nat.{add-suc, suc-add, add-zero, zero-add}
 use native.Mathlib.Omega.{arith}
 use lib.ListN.{length, set, take, drop, drop-of-length-le}
 use lib.Seq.{sets, sets-eq, length-take-le}
-use Rattle.cells.specs.Answer.{answer, given, Decided, alone, keeping, deepest, TooDeep}
+use Rattle.cells.specs.Answer.{answer, given, Test, Decided, alone, keeping, deepest, TooDeep}
 use Rattle.cells.specs.declared.Answer.{Answer}
 use Rattle.cells.proofs.Decisions.{One, one-equal, one-refuses, one-refuses-first, one-decided, passes, deep-enough, decided-first, decided-next}
 use Rattle.records.specs.Record.{Good}
 use Rattle.records.specs.Fault.{Faulty}
-use Rattle.records.specs.Writing.{stands, TooShort, WritesOf, ListWritesOf}
+use Rattle.records.specs.Writing.{stands, TooShort, WritesOf}
 use Rattle.records.proofs.First.{good-passes}
 use Rattle.records.proofs.CallLaws.{checks}
 
@@ -44,33 +44,37 @@ sets-stands o e t n counted room p =
 -- ---- a call that writes t over o
 
 module _ (t o : List ℕ) where
-  pub one-writes : One (λ (s : Answer × List ℕ). WritesOf t o (s .0) (s .1))
+  pub one-writes : One (WritesOf t o)
   one-writes = one-decided (keeping o) (TooShort (length t) o ∷ []) _ (one-refuses, tt) one-equal
 
   -- where it fits
-  pub writes-fitting : length t ≤ length o → WritesOf t o (given (length t)) (stands t o)
+  pub writes-fitting : length t ≤ length o → WritesOf t o (given (length t), stands t o)
   writes-fitting h = inr (passes (λ x. omega arith), refl)
 
   module _ (need : ℕ) (counted : need ≡ length t) (r : Answer) (after : List ℕ) where
-    pub too-short : length o < need → r ≡ answer 8 need 0 → after ≡ o → WritesOf t o r after
+    pub too-short : length o < need → r ≡ answer 8 need 0 → after ≡ o → WritesOf t o (r, after)
     too-short h e kept = inl (_, (omega (arith, counted), refl), ap₂ (λ (a : Answer) (l : List ℕ). (a, l)) (e ∙ ap (λ (n : ℕ). answer 8 n 0) counted) kept)
 
-    pub standing : need ≤ length o → r ≡ given need → after ≡ stands t o → WritesOf t o r after
+    pub standing : need ≤ length o → r ≡ given need → after ≡ stands t o → WritesOf t o (r, after)
     standing h e put = inr (passes (λ x. omega (arith, counted)), ap₂ (λ (a : Answer) (l : List ℕ). (a, l)) (e ∙ ap given counted) put)
 
   -- where a list is tested first, which gives the answer a of another call: a refusal is passed on, else the room decides
   module _ (D : ℕ) (l : List ℕ) where
-    pub one-list-writes : One (λ (s : Answer × List ℕ). ListWritesOf D l t o (s .0) (s .1))
-    one-list-writes = one-decided (keeping o) (TooDeep deepest D ∷ Faulty D l 1 ∷ TooShort (length t) o ∷ []) _ (one-refuses, (one-refuses-first, (one-refuses, tt))) one-equal
+    abbrev tests : List Test
+    tests = TooDeep deepest D ∷ Faulty D l 1 ∷ []
 
-    pub list-fitting : D ≤ deepest → Good D l → length t ≤ length o → ListWritesOf D l t o (given (length t)) (stands t o)
+    abbrev ListWrites : Answer × List ℕ → Type 0
+    ListWrites = Decided (keeping o) tests (WritesOf t o)
+
+    pub one-list-writes : One ListWrites
+    one-list-writes = one-decided (keeping o) tests _ (one-refuses, (one-refuses-first, tt)) one-writes
+
+    pub list-fitting : D ≤ deepest → Good D l → length t ≤ length o → ListWrites (given (length t), stands t o)
     list-fitting h g room = inr (passes (deep-enough h), inr (good-passes D l 1 g, writes-fitting room))
 
-    module _ (n : ℕ) (a : Answer) (d : Decided alone (TooDeep deepest D ∷ Faulty D l 1 ∷ []) (λ x. x ≡ given n) a) where
-      pub list-refused : (a .number ≡ 0 → ⊥) → ListWritesOf D l t o a o
-      list-refused some = decided-first (keeping o) (TooDeep deepest D ∷ Faulty D l 1 ∷ []) (TooShort (length t) o ∷ []) (λ x. x ≡ given n) (λ s. s ≡ (given (length t), stands t o)) a (λ e. some (ap (λ (x : Answer). x .number) e)) d
+    module _ (n : ℕ) (a : Answer) (d : Decided alone tests (λ x. x ≡ given n) a) where
+      pub list-refused : (a .number ≡ 0 → ⊥) → ListWrites (a, o)
+      list-refused some = decided-first (keeping o) tests [] (λ x. x ≡ given n) (WritesOf t o) a (λ e. some (ap (λ (x : Answer). x .number) e)) d
 
-      pub list-written : a .number ≡ 0 → (r : Answer) (after : List ℕ) → WritesOf t o r after → ListWritesOf D l t o r after
-      list-written z r after w =
-          decided-next (keeping o) (TooDeep deepest D ∷ Faulty D l 1 ∷ []) (TooShort (length t) o ∷ []) (λ x. x ≡ given n) (λ s. s ≡ (given (length t), stands t o)) a (r, after)
-          (checks D l .numbered) z (λ e. w) d
+      pub list-written : a .number ≡ 0 → (r : Answer) (after : List ℕ) → WritesOf t o (r, after) → ListWrites (r, after)
+      list-written z r after w = decided-next (keeping o) tests [] (λ x. x ≡ given n) (WritesOf t o) a (r, after) (checks D l .numbered) z (λ e. w) d

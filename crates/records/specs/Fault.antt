@@ -21,16 +21,9 @@ early D l i = leb 1 i && ltb (start D (getD l i 0)) (end D (getD l (i - 1) 0))
 unfoldable pub eightAt : List ℕ → ℕ → Bool
 eightAt l a = eqb (getD l a 0 % 8) 0 && allFrom (λ j. eqb (getD l (a + j) 0) (getD l a 0 + j)) 0 8
 
--- the number of the first test that fails: whether the code is proper, whether the leaf is early, whether it completes eight siblings; 0 where none does
-abbrev pub numbered : Bool → Bool → Bool → ℕ
-numbered false e s = 2
-numbered true true s = 3
-numbered true false true = 4
-numbered true false false = 0
-
--- the number of the fault at index i, 0 where there is none
+-- the number of the fault at index i: 2 where the code is not proper, else 3 where the leaf is early, else 4 where it completes eight siblings, else 0
 unfoldable pub fault : ℕ → List ℕ → ℕ → ℕ
-fault D l i = numbered (proper D (getD l i 0)) (early D l i) (leb 7 i && eightAt l (i - 7))
+fault D l i = elim (proper D (getD l i 0)) [ false ↦ 2 | true ↦ elim (early D l i) [ true ↦ 3 | false ↦ elim (leb 7 i && eightAt l (i - 7)) [ true ↦ 4 | false ↦ 0 ] ] ]
 
 -- numbers 2, 3 and 4: the first fault of the call's list k
 abbrev pub Faulty : ℕ → List ℕ → ℕ → Test

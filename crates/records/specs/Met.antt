@@ -40,8 +40,7 @@ pub record MetOf (D : ℕ) (l : List ℕ) (p : ℕ × ℕ) (c : ℕ) (d : ℕ �
   pub meeting : Meeting
   pub found : MeetingOf D l c d meeting
   pub codes : r ≡ take (meeting .n) (drop (meeting .at) l)
-  pub memory : q .0 ≡ p .0
-  pub begins : q .1 ≡ p .1 + meeting .at * 4
+  pub begins : q ≡ (p .0, p .1 + meeting .at * 4)
 
 -- THE CALL met_at: the index where that part begins
 abbrev pub MetAtOf : ℕ → List ℕ → ℕ → (ℕ → ℤ) → Answer → Type 0

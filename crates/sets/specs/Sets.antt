@@ -8,7 +8,7 @@ use Rattle.cells.specs.Answer.{Decided, keeping, deepest, TooDeep}
 use Rattle.cells.specs.declared.Answer.{Answer}
 use Rattle.records.specs.Record.{black}
 use Rattle.records.specs.Fault.{Faulty}
-use Rattle.records.specs.Writing.{Crowded, Written}
+use Rattle.records.specs.Writing.{WritesListOf}
 use Rattle.sets.specs.declared.Op.{Op}
 use Rattle.sets.specs.declared.Op.the-variants.{Join, Intersect, Subtract}
 
@@ -24,6 +24,4 @@ InResult op D a b v = Chosen op (black D a v ≡ true) (black D b v ≡ true)
 
 -- THE CALLS join, intersection and difference, on the lists a and b and the buffer o: the answer r and the buffer o' afterwards
 abbrev pub SetOf : Op → ℕ → List ℕ → List ℕ → List ℕ → Answer → List ℕ → Type 0
-SetOf op D a b o r o' =
-    Decided (keeping o) (TooDeep deepest D ∷ Faulty D a 1 ∷ Faulty D b 2 ∷ Crowded D (InResult op D a b) o ∷ [])
-    (Written D (InResult op D a b) o) (r, o')
+SetOf op D a b o r o' = Decided (keeping o) (TooDeep deepest D ∷ Faulty D a 1 ∷ Faulty D b 2 ∷ []) (WritesListOf D (InResult op D a b) o) (r, o')

@@ -10,11 +10,11 @@ use emit::inner::Runs;
 use emit::inner::finish;
 use emit::inner::push;
 ghost use mathlib.Core.Path.{_≡_};
-ghost use mathlib.Core.List.{List, [], _∷_};
+ghost use mathlib.Core.List.{List};
 ghost use Prim.Native.Nat.{ℕ, _≤_, _<_, _^_, min, max};
-ghost use Rattle.cells.specs.Answer.{Decided, keeping, deepest};
+ghost use Rattle.cells.specs.Answer.{deepest};
 ghost use Rattle.records.specs.Record.{Ordered};
-ghost use Rattle.records.specs.Writing.{Crowded, Written};
+ghost use Rattle.records.specs.Writing.{WritesListOf};
 ghost use Rattle.emit.specs.Inner.{Result};
 ghost use Rattle.sets.specs.Sets.{InResult};
 ghost use Rattle.sets.specs.Inner.{chosen, both, Behind, Points, Steady};
@@ -134,8 +134,7 @@ fn sweep(op: Op, depth: u32, a: &[u32], b: &[u32], out: &mut [u32]) -> usize
 // The first sweep counts: it has the empty part of `out`, into which nothing is put.
 pub fn combine(op: Op, depth: u32, a: &[u32], b: &[u32], out: &mut [u32]) -> Answer
     requires { ⌜ (depth ≤ deepest) × Ordered depth 0 (now a) × Ordered depth 0 (now b) ⌝ }
-    ensures { λ r. ⌜ Decided (keeping (now (out .entry))) (Crowded depth (InResult op depth (now (a .entry)) (now (b .entry))) (now (out .entry)) ∷ [])
-        (Written depth (InResult op depth (now (a .entry)) (now (b .entry))) (now (out .entry))) (r, now (out .exit)) ⌝ }
+    ensures { λ r. ⌜ WritesListOf depth (InResult op depth (now (a .entry)) (now (b .entry))) (now (out .entry)) (r, now (out .exit)) ⌝ }
 {
     let need = sweep(op, depth, a, b, &mut out[..0]);
     if out.len() < need {

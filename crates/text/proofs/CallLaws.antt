@@ -28,10 +28,10 @@ module _ (t o e : List ℕ) (need : ℕ) (p : Put (take 0 o) 0 t e need) where
   kept : o₁ ≡ o
   kept = sets-counted o e t (p .bytes)
 
-  pub text-short : length o₁ < need → (r : Answer) → r ≡ answer 8 need 0 → WritesOf t o r o₁
+  pub text-short : length o₁ < need → (r : Answer) → r ≡ answer 8 need 0 → WritesOf t o (r, o₁)
   text-short h r a = too-short t o need counted r _ (omega (arith, ap length kept)) a kept
 
-  pub text-stands : need ≤ length o₁ → (e₂ : List ℕ) (n : ℕ) → Put (take need o₁) 0 t e₂ n → (r : Answer) → r ≡ given need → WritesOf t o r (e₂ ++ drop need o₁)
+  pub text-stands : need ≤ length o₁ → (e₂ : List ℕ) (n : ℕ) → Put (take need o₁) 0 t e₂ n → (r : Answer) → r ≡ given need → WritesOf t o (r, e₂ ++ drop need o₁)
   text-stands h e₂ n q r a = standing t o need counted r _ (omega (arith, ap length kept)) a (sets-stands o₁ e₂ t need counted h (q .bytes) ∙ ap (stands t) kept)
 
 -- ---- past `volume`

@@ -13,7 +13,8 @@ use Rattle.cells.specs.Answer.{deepest}
 use Rattle.cells.specs.Cell.{level, proper, index}
 use Rattle.cells.proofs.Power.{pow8-pos, pow8-suc}
 use Rattle.cells.proofs.Cells.{level-le, proper-bounds}
-use Rattle.text.specs.Text.{digits, labels, pathLine, pathLines, refusedText}
+use Rattle.text.specs.Text.{digits, labels, pathLines, refusedText}
+use Rattle.text.specs.Inner.{pathLine}
 use Rattle.text.specs.Inner.{Put, Labelled, headLine}
 use Rattle.text.proofs.Puts.{put-append, put-as}
 

@@ -11,7 +11,8 @@ use Rattle.cells.specs.declared.Answer.{Answer}
 use Rattle.cells.proofs.Decisions.{passes, opening-known}
 use Rattle.records.proofs.First.{good-passes}
 use Rattle.records.proofs.Instances.{volume-holds}
-use Rattle.text.specs.Text.{digits, labels, pathLines, listing, textOf, TextOf, refusedText, RefusedOf}
+use Rattle.text.specs.Text.{digits, labels, pathLines, textOf, TextOf, refusedText, RefusedOf}
+use Rattle.text.specs.Inner.{listing}
 use Rattle.text.proofs.CallLaws.{GoodVolume, measures, one-text, one-refused}
 
 -- ---- document 01's listing: depth 3, [r057]
@@ -28,7 +29,7 @@ abbrev pub printed : List ℕ
 printed = 100 ∷ 101 ∷ 112 ∷ 116 ∷ 104 ∷ 32 ∷ 51 ∷ 32 ∷ 108 ∷ 101 ∷ 97 ∷ 118 ∷ 101 ∷ 115 ∷ 32 ∷ 49 ∷ 32 ∷ 118 ∷ 111 ∷ 108 ∷ 117 ∷ 109 ∷ 101 ∷ 32 ∷ 49 ∷ 10 ∷ 114 ∷ 48 ∷ 53 ∷ 55 ∷ 10 ∷ []
 
 pub text-is : textOf 3 one ≡ printed
-unfolding digits labels level index pathLines listing
+unfolding digits labels level index pathLines textOf listing
 text-is = ap (listing 3 one) (sym (known .is-volume))
 
 -- 31 bytes, and one more, which stays

@@ -4,7 +4,8 @@ use mathlib.Core.List.{List, [], _∷_, _++_}
 use Prim.Native.Nat.{ℕ, _+_, _^_, _<_}
 use lib.ListN.{length}
 use lib.Seq.{sets}
-use Rattle.text.specs.Text.{field, depthWord, leavesWord, volumeWord}
+use Rattle.cells.specs.Cell.{level, index}
+use Rattle.text.specs.Text.{labels, pathLines, field, depthWord, leavesWord, volumeWord}
 
 -- the text l is put over the bytes o from place `at` on, which leaves `after`: a byte past their end changes nothing; r is the place after it
 pub record Put (o : List ℕ) (at : ℕ) (l after : List ℕ) (r : ℕ) : Type 0 where
@@ -18,3 +19,11 @@ Labelled c k i = (c ≡ 8 ^ k + i) × (i < 8 ^ k)
 -- the first line: depth D, n leaves, v black voxels
 abbrev pub headLine : ℕ → ℕ → ℕ → List ℕ
 headLine D n v = field depthWord D ++ field leavesWord n ++ field volumeWord v ++ (10 ∷ [])
+
+-- the line of a path: r, then the labels
+abbrev pub pathLine : ℕ → ℕ → List ℕ
+pathLine D c = 114 ∷ (labels (level D c) (index D c) ++ (10 ∷ []))
+
+-- the whole listing, v being the black voxels
+unfoldable pub listing : ℕ → List ℕ → ℕ → List ℕ
+listing D l v = field depthWord D ++ field leavesWord (length l) ++ field volumeWord v ++ (10 ∷ []) ++ pathLines D l

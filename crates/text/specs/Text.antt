@@ -5,10 +5,12 @@ use Prim.Native.Nat.{ℕ, zero, suc, _+_, _/_, _%_, _^_}
 use lib.Dec.{ltb}
 use lib.ListN.{length}
 use Rattle.cells.specs.Cell.{level, index}
+use Rattle.cells.specs.Answer.{Decided, keeping, deepest, TooDeep}
 use Rattle.cells.specs.declared.Answer.{Answer}
 use Rattle.records.specs.Record.{black}
 use Rattle.records.specs.Count.{count}
-use Rattle.records.specs.Writing.{WritesOf, ListWritesOf}
+use Rattle.records.specs.Fault.{Faulty}
+use Rattle.records.specs.Writing.{WritesOf}
 
 -- the digits of n in base b, at most f + 1 of them, no zeros in front
 unfoldable pub digits : ℕ → ℕ → ℕ → List ℕ
@@ -20,14 +22,10 @@ unfoldable pub labels : ℕ → ℕ → List ℕ
 labels zero i = []
 labels (suc k) i = labels k (i / 8) ++ ((48 + i % 8) ∷ [])
 
--- a path and the line's end: r, then the labels
-abbrev pub pathLine : ℕ → ℕ → List ℕ
-pathLine D c = 114 ∷ (labels (level D c) (index D c) ++ (10 ∷ []))
-
--- one path a line, in list order
+-- one path a line, in list order: r, then the labels, and the line's end
 unfoldable pub pathLines : ℕ → List ℕ → List ℕ
 pathLines D [] = []
-pathLines D (c ∷ l) = pathLine D c ++ pathLines D l
+pathLines D (c ∷ l) = (114 ∷ (labels (level D c) (index D c) ++ (10 ∷ []))) ++ pathLines D l
 
 -- "depth ", " leaves ", " volume "
 abbrev pub depthWord : List ℕ
@@ -43,17 +41,13 @@ volumeWord = 32 ∷ 118 ∷ 111 ∷ 108 ∷ 117 ∷ 109 ∷ 101 ∷ 32 ∷ []
 abbrev pub field : List ℕ → ℕ → List ℕ
 field w n = w ++ digits 10 19 n
 
--- depth, leaf count and black voxels on the first line, then the paths
-unfoldable pub listing : ℕ → List ℕ → ℕ → List ℕ
-listing D l v = field depthWord D ++ field leavesWord (length l) ++ field volumeWord v ++ (10 ∷ []) ++ pathLines D l
-
--- the listing of a good list
-abbrev pub textOf : ℕ → List ℕ → List ℕ
-textOf D l = listing D l (count (black D l) (8 ^ D))
+-- the listing of a good list: depth, leaf count and black voxels on the first line, then the paths
+unfoldable pub textOf : ℕ → List ℕ → List ℕ
+textOf D l = field depthWord D ++ field leavesWord (length l) ++ field volumeWord (count (black D l) (8 ^ D)) ++ (10 ∷ []) ++ pathLines D l
 
 -- THE CALL list_text, of the list l to the bytes o: the answer r and the bytes o' afterwards
 abbrev pub TextOf : ℕ → List ℕ → List ℕ → Answer → List ℕ → Type 0
-TextOf D l o r o' = ListWritesOf D l (textOf D l) o r o'
+TextOf D l o r o' = Decided (keeping o) (TooDeep deepest D ∷ Faulty D l 1 ∷ []) (WritesOf (textOf D l) o) (r, o')
 
 -- "refused "
 abbrev pub refusedWord : List ℕ
@@ -65,4 +59,4 @@ refusedText n p = field refusedWord n ++ field (32 ∷ []) p ++ (10 ∷ [])
 
 -- THE CALL refused_text, of number n and place p to the bytes o: the answer r and the bytes o' afterwards
 abbrev pub RefusedOf : ℕ → ℕ → List ℕ → Answer → List ℕ → Type 0
-RefusedOf n p o r o' = WritesOf (refusedText n p) o r o'
+RefusedOf n p o r o' = WritesOf (refusedText n p) o (r, o')

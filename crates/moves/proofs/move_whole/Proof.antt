@@ -15,7 +15,8 @@ use Rattle.cells.proofs.Firsts.{stops-first, stops-never}
 use Rattle.cells.proofs.Places.{each-axis}
 use Rattle.records.specs.Carried.{FromBlack}
 use Rattle.records.proofs.Carrying.{Accepted, accepted-passes}
-use Rattle.emit.proofs.Answers.{Told, crowded, written}
+use Rattle.records.specs.Writing.{WritesListOf}
+use Rattle.emit.proofs.Answers.{crowded, written}
 use Rattle.shifts.specs.Shift.{shifted}
 use Rattle.moves.specs.Moves.{ShiftOf}
 use Rattle.moves.specs.Inner.{Splits, back}
@@ -67,7 +68,7 @@ module _ (e : tie.Else1) where
       rw is (shifted-exactly (a .depth) (d (e .before)) (p (e .before)) (split (e .before)) (a .list .now) (b .pre .1) accepted v h)
 
   -- past the test, the room decides
-  next : {t : Answer × List ℕ} → Told (b .args .depth) (FromBlack (b .args .depth) R (b .args .list .now)) (b .args .out .now) t
+  next : {t : Answer × List ℕ} → WritesListOf (b .args .depth) (FromBlack (b .args .depth) R (b .args .list .now)) (b .args .out .now) t
       → ShiftOf (b .args .depth) (b .args .list .now) (d (e .before)) (b .args .out .now) t
   next told = inr (accepted-passes (b .args .depth) R (b .args .list .now) accepted, told)
 

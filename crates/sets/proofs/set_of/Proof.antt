@@ -8,7 +8,7 @@ use Rattle.cells.specs.Answer.{Test, Decided, keeping}
 use Rattle.cells.specs.declared.Answer.{Answer}
 use Rattle.cells.proofs.Decisions.{passes, deep-enough, opening-refuses, opening-passes, opening-known}
 use Rattle.records.specs.Fault.{Faulty}
-use Rattle.records.specs.Writing.{Crowded, Written}
+use Rattle.records.specs.Writing.{WritesListOf}
 use Rattle.records.proofs.CallLaws.{Checked, judges}
 use Rattle.sets.specs.Sets.{InResult, SetOf}
 use Rattle.sets.proofs.set_of.Statement.{statement}
@@ -36,22 +36,20 @@ module _ (c : tie.After-judged) where
   abbrev Q : ℕ → Type 0
   Q = InResult (start .args .op) D a b
 
-  -- the tests after that of the first list, and of the second; what such a row leaves
+  -- the tests after that of the first list
   abbrev after-first : List Test
-  after-first = Faulty D b 2 ∷ Crowded D Q o ∷ []
+  after-first = Faulty D b 2 ∷ []
 
-  abbrev after-second : List Test
-  after-second = Crowded D Q o ∷ []
-
-  abbrev Rest : List Test → Answer × List ℕ → Type 0
-  Rest Fs = Decided (keeping o) Fs (Written D Q o)
+  -- past both lists
+  abbrev Rest : Answer × List ℕ → Type 0
+  Rest = WritesListOf D Q o
 
   -- its fault is told, or the second list decides
   first-refuses : (c .judged .result .number ≡ 0 → ⊥) → SetOf (start .args .op) D a b o (c .judged .result) o
-  first-refuses some = inr (passes (deep-enough (c .before .if1 .left)), opening-refuses (judges D a 1 (c .before .if1 .left)) _ (c .judged .ensures) (keeping o) after-first (Written D Q o) some)
+  first-refuses some = inr (passes (deep-enough (c .before .if1 .left)), opening-refuses (judges D a 1 (c .before .if1 .left)) _ (c .judged .ensures) (keeping o) after-first Rest some)
 
-  first-passes : {r : Answer} {after : List ℕ} → c .judged .result .number ≡ 0 → Rest after-first (r, after) → SetOf (start .args .op) D a b o r after
-  first-passes z d = inr (passes (deep-enough (c .before .if1 .left)), opening-passes (judges D a 1 (c .before .if1 .left)) _ (c .judged .ensures) (keeping o) after-first (Written D Q o) _ z d)
+  first-passes : {r : Answer} {after : List ℕ} → c .judged .result .number ≡ 0 → Decided (keeping o) after-first Rest (r, after) → SetOf (start .args .op) D a b o r after
+  first-passes z d = inr (passes (deep-enough (c .before .if1 .left)), opening-passes (judges D a 1 (c .before .if1 .left)) _ (c .judged .ensures) (keeping o) after-first Rest _ z d)
 
   first-good : c .judged .result .number ≡ 0 → Checked D a (c .judged .result .place)
   first-good z = opening-known (judges D a 1 (c .before .if1 .left)) _ (c .judged .ensures) z
@@ -68,13 +66,13 @@ module _ (c : tie.After-judged2) where
   second-refuses : (c .judged2 .result .number ≡ 0 → ⊥) → SetOf (start at-first .args .op) (D at-first) (a at-first) (b at-first) (o at-first) (c .judged2 .result) (o at-first)
   second-refuses some =
       let p = at-first in
-      first-passes p none (opening-refuses (judges (D p) (b p) 2 (p .before .if1 .left)) _ (c .judged2 .ensures) (keeping (o p)) (after-second p) (Written (D p) (Q p) (o p)) some)
+      first-passes p none (opening-refuses (judges (D p) (b p) 2 (p .before .if1 .left)) _ (c .judged2 .ensures) (keeping (o p)) [] (Rest p) some)
 
-  second-passes : {r : Answer} {after : List ℕ} → c .judged2 .result .number ≡ 0 → Rest at-first (after-second at-first) (r, after)
+  second-passes : {r : Answer} {after : List ℕ} → c .judged2 .result .number ≡ 0 → Rest at-first (r, after)
       → SetOf (start at-first .args .op) (D at-first) (a at-first) (b at-first) (o at-first) r after
   second-passes z d =
       let p = at-first in
-      first-passes p none (opening-passes (judges (D p) (b p) 2 (p .before .if1 .left)) _ (c .judged2 .ensures) (keeping (o p)) (after-second p) (Written (D p) (Q p) (o p)) _ z d)
+      first-passes p none (opening-passes (judges (D p) (b p) 2 (p .before .if1 .left)) _ (c .judged2 .ensures) (keeping (o p)) [] (Rest p) _ z d)
 
   second-good : c .judged2 .result .number ≡ 0 → Checked (D at-first) (b at-first) (c .judged2 .result .place)
   second-good z = opening-known (judges (D at-first) (b at-first) 2 (at-first .before .if1 .left)) _ (c .judged2 .ensures) z

@@ -7,8 +7,8 @@ use lib.Seq.{length-take-le}
 use Rattle.cells.specs.declared.Answer.{Answer}
 use Rattle.records.specs.Writing.{WritesOf}
 use Rattle.records.proofs.Writing.{list-refused, list-written}
-use Rattle.text.specs.Text.{listing, textOf, TextOf}
-use Rattle.text.specs.Inner.{Put}
+use Rattle.text.specs.Text.{textOf, TextOf}
+use Rattle.text.specs.Inner.{Put, listing}
 use Rattle.text.proofs.Puts.{put-as}
 use Rattle.text.proofs.CallLaws.{text-short, text-stands, GoodVolume, measures}
 use Rattle.cells.proofs.Decisions.{opening-known}
@@ -45,9 +45,10 @@ module _ (c : tie.Else1) where
 
   -- the text that is put is the listing
   listed : {b after : List ℕ} {r : ℕ} → Put b 0 (listing (s v .args .depth) (l v) (v .volume .result .place)) after r → Put b 0 (t v) after r
+  unfolding textOf listing
   listed p = put-as (ap (listing (s v .args .depth) (l v)) (good .is-volume)) p
 
-  told : {r : Answer} {after : List ℕ} → WritesOf (t v) (o v) r after → TextOf (s v .args .depth) (l v) (o v) r after
+  told : {r : Answer} {after : List ℕ} → WritesOf (t v) (o v) (r, after) → TextOf (s v .args .depth) (l v) (o v) r after
   told w = list-written (t v) (o v) (s v .args .depth) (l v) _ (v .volume .result) (v .volume .ensures) none _ _ w
 
 returns-3 : tie.Need-returns-3

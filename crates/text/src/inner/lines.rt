@@ -10,8 +10,8 @@ ghost use lib.ListN.{length};
 ghost use Rattle.cells.specs.Answer.{deepest};
 ghost use Rattle.cells.specs.Cell.{proper};
 ghost use Rattle.records.specs.Record.{Ordered};
-ghost use Rattle.text.specs.Text.{pathLine, pathLines, field, listing, refusedText};
-ghost use Rattle.text.specs.Inner.{Put, headLine};
+ghost use Rattle.text.specs.Text.{pathLines, field, refusedText};
+ghost use Rattle.text.specs.Inner.{Put, headLine, pathLine, listing};
 
 // The path of a code.
 fn put_path(code: u32, bytes: &mut [u8], at: usize) -> usize

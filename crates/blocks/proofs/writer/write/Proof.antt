@@ -55,7 +55,7 @@ module _ (c : tie.After-blocks-of) where
   need : blockBytes * c .blocks-of .result ≡ length (f t)
   need = ap (λ (n : ℕ). blockBytes * n) is-blocks ∙ sym (file-length (s t .args .depth) (l t))
 
-  told : {r : Answer} {after : List ℕ} → WritesOf (f t) (o t) r after → WriteOf (s t .args .depth) (l t) (o t) r after
+  told : {r : Answer} {after : List ℕ} → WritesOf (f t) (o t) (r, after) → WriteOf (s t .args .depth) (l t) (o t) r after
   told w = list-written (f t) (o t) (s t .args .depth) (l t) _ (t .check .result) (t .check .ensures) none _ _ w
 
 pub write-spec : {M : Type 1} → statement M

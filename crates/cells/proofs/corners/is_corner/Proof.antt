@@ -6,7 +6,8 @@ use native.Mathlib.Omega.{arith}
 use borrow.Author.Needs.{needs}
 use borrow.Author.Tests.{le-leb, lt-leb, not-true, not-false}
 use Rattle.cells.specs.Place.{axes}
-use Rattle.cells.specs.Corners.{onGrid, isCorner}
+use Rattle.cells.specs.Corners.{isCorner}
+use Rattle.cells.specs.Inner.{onGrid}
 use Rattle.cells.proofs.Power.{pow2-pos}
 use Rattle.cells.proofs.corners.is_corner.Statement.{statement}
 use Rattle.cells.proofs.corners.is_corner.Tie as tie

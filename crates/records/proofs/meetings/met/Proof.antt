@@ -1,5 +1,5 @@
 -- `records::meetings::met` meets its contract: the part that is returned lies in the caller's own list. Assumes nothing.
-use mathlib.Core.Path.{_≡_, refl, ap}
+use mathlib.Core.Path.{_≡_, ap}
 use mathlib.Core.List.{List}
 use Prim.Native.Nat.{ℕ, _+_, _-_, _*_, _≤_}
 use native.Mathlib.Nat.{add-comm}
@@ -44,8 +44,7 @@ returns c =
       meeting = r f;
       found = found f;
       codes = ap (λ (k : ℕ). take k (drop (r f .at) (l f))) many;
-      memory = refl;
-      begins = add-comm (r f .at * 4) (s f .args .list .ptr .1);
+      begins = ap (λ (k : ℕ). (s f .args .list .ptr .0, k)) (add-comm (r f .at * 4) (s f .args .list .ptr .1));
     }
 
 pub met-spec : {M : Type 1} → statement M

@@ -3,7 +3,7 @@ use native.Mathlib.Omega.{arith}
 use borrow.Author.Needs.{needs}
 use Rattle.cells.proofs.Words.{pow8-small}
 use Rattle.text.proofs.Puts.{put-append}
-use Rattle.text.specs.Text.{listing}
+use Rattle.text.specs.Inner.{listing}
 use Rattle.text.proofs.inner.lines.put_listing.Statement.{statement}
 use Rattle.text.proofs.inner.lines.put_listing.Tie as tie
 
