@@ -18,5 +18,3 @@ pub mod Unique
 pub mod Named
 pub mod Impostors
 pub mod StoredImpostors
--- the definitions as they stood before, and that they say the same
-pub mod Former

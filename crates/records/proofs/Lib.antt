@@ -31,5 +31,3 @@ pub mod CallLaws
 pub mod Writing
 pub mod MetLaws
 pub mod Instances
--- the contract of met as it stood before
-pub mod Former
