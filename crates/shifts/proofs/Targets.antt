@@ -102,7 +102,7 @@ module _ {D w : ℕ} {l : List ℕ} {c : Target} {t : List Slot} {r : Runs} (x :
 
 -- the slots of child m, picked from the parts of its parent's, h the shift's label as the code has it
 pub child-aimed : {D w : ℕ} {l : List ℕ} {c : Target} {p : List (List Slot)} {r s : Runs} {t : List Slot} (x : Divides D l w c p r) (h m v : ℕ) → h ≡ w / 8 ^ c .k % 8 → m < 8 → v ≡ c .from + m * 8 ^ c .k
-    → ((q : ℕ) → q < 8 → slotAt t q ≡ partAt p (carryLabel h m q) (sumLabel h m q)) → Ready D s v → Aimed D l w (record { from = v; k = c .k; axes = c .axes }) t s
+    → ((q : ℕ) → q < 8 → Uses (c .axes) q → slotAt t q ≡ partAt p (carryLabel h m q) (sumLabel h m q)) → Ready D s v → Aimed D l w (record { from = v; k = c .k; axes = c .axes }) t s
 unfolding need
 child-aimed {D} {w} {l} {c} {p} {r} {s} {t} x h m v eh child place pick ready = record {
   source = x .source;
@@ -122,7 +122,7 @@ child-aimed {D} {w} {l} {c} {p} {r} {s} {t} x h m v eh child place pick ready = 
         let b = sumLabel h m q in
         let part : Of D l k (8 * cellOf D w (suc k) (x .cell) a + b) (partAt p a b) = x .parts a b (carry-lt h m q) (rw (← eh) (uses-carry (need k w) h m q (rw (x .axes) at u))) (sum-lt h m q) in
         let same : cellOf D w k (8 * x .cell + m) q ≡ 8 * cellOf D w (suc k) (x .cell) a + b = rw eh (child-cell D w k (x .cell) m q (x .level) child) in
-        rw (same, pick q g) part
+        rw (same, pick q g u) part
 
 -- ---- the root: each slot is the whole list
 

@@ -1,5 +1,7 @@
 // The descent through target cells, each with its slots, into eight children, the levels left falling.
 use crate::inner::labels::axes;
+use crate::inner::labels::carry_label;
+use crate::inner::labels::sum_label;
 use crate::inner::sources::colour;
 use crate::inner::sources::pick;
 use crate::inner::sources::split;
@@ -102,7 +104,7 @@ pub fn shift_cell(
     }
 }
 
-// Eight target cells in label order, c the first, with the parts p of their parent's slots.
+// Eight target cells in label order, c the first, with the parts p of their parent's slots. Where no axis can carry, each comes from one source cell.
 pub fn shift_children(
     depth: u32,
     l: &[u32],
@@ -128,7 +130,13 @@ pub fn shift_children(
             k: k,
             axes: f,
         };
-        s = shift_cell(depth, l, w, child, pick(p, h, m), s, out);
+        if f == 0 {
+            let from = carry_label(h, m, 0) as usize;
+            let label = sum_label(h, m, 0) as usize;
+            s = copy_slot(depth, l, child, p[from][label], s, out);
+        } else {
+            s = shift_cell(depth, l, w, child, pick(p, h, m), s, out);
+        }
         v += span;
         m += 1;
     }

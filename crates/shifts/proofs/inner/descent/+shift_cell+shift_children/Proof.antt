@@ -1,6 +1,8 @@
 -- The proof of the cycle of calls {shift_cell, shift_children}. The measures are 2 * k and 2 * k + 1, k the levels left. Assumes nothing.
 use mathlib.Core.Path.{_≡_, ap, _∙_}
 use mathlib.Core.Bool.{true, false}
+use mathlib.Core.List.{List}
+use mathlib.Core.Logic.{⊎-elim}
 use Prim.Native.Nat.{ℕ, suc, _+_, _-_, _*_, _/_, _%_, _^_, _≤_, _<_}
 use native.Mathlib.Omega.{arith}
 use borrow.Author.Needs.{needs}
@@ -9,12 +11,16 @@ use borrow.Fn.PlainCycle.{Measures, is, falls, and}
 use Rattle.cells.proofs.Power.{pow8-pos, pow8-suc, pow8-bits}
 use Rattle.cells.proofs.Words.{pow8-small}
 use Rattle.records.proofs.Edges.{child-within}
+use Rattle.records.specs.Slot.{slotAt}
+use Rattle.records.specs.declared.inner.slots.Slot.{Slot}
+use Rattle.records.proofs.SlotLaws.{eightOf}
 use Rattle.emit.specs.Inner.{Next}
 use Rattle.emit.proofs.Runs.{fed-white, fed-to}
 use Rattle.emit.proofs.Children.{Children, children-none, children-more, children-all}
 use Rattle.shifts.specs.Shift.{shifted}
-use Rattle.shifts.specs.Descent.{Aimed, Divides}
-use Rattle.shifts.proofs.Bits.{uses-none}
+use Rattle.shifts.specs.LabelSums.{sumLabel, carryLabel, Uses}
+use Rattle.shifts.specs.Descent.{Aimed, Divides, partAt}
+use Rattle.shifts.proofs.Bits.{uses-none, none-used}
 use Rattle.shifts.proofs.Adder.{need-lt}
 use Rattle.shifts.proofs.Targets.{aimed-slots, aimed-colour, aimed-copying, aimed-copies, aimed-parent, aimed-above, aimed-divides, child-aimed}
 use Rattle.shifts.proofs.inner.descent.shift_cell.Reads as shift-cell
@@ -27,6 +33,8 @@ use Rattle.cells.proofs.inner.pow8.Reads as pow8-reads
 use Rattle.emit.proofs.inner.push.Reads as push-reads
 use Rattle.shifts.proofs.inner.descent.copy_slot.Reads as copy-slot-reads
 use Rattle.shifts.proofs.inner.labels.axes.Reads as axes-reads
+use Rattle.shifts.proofs.inner.labels.carry_label.Reads as carry-label-reads
+use Rattle.shifts.proofs.inner.labels.sum_label.Reads as sum-label-reads
 use Rattle.shifts.proofs.inner.sources.colour.Reads as colour-reads
 use Rattle.shifts.proofs.inner.sources.pick.Reads as pick-reads
 use Rattle.shifts.proofs.inner.sources.split.Reads as split-reads
@@ -53,25 +61,10 @@ shift-children-below t = and 2 shift-children-kinds.ps (falls 2 shift-children-k
 
 -- what the functions called ask and give
 abbrev cell-calls : ℕ → shift-cell-lts.Claims
-cell-calls t = (
-  copy-slot-reads.Asked,
-  copy-slot-reads.Learnt,
-  pow8-reads.Asked,
-  pow8-reads.Learnt,
-  colour-reads.Asked,
-  colour-reads.Learnt,
-  push-reads.Asked,
-  push-reads.Learnt,
-  split-reads.Asked,
-  split-reads.Learnt,
-  axes-reads.Asked,
-  axes-reads.Learnt,
-  shift-children-below t,
-  shift-children.Post,
-)
+cell-calls t = (copy-slot-reads.Asked, copy-slot-reads.Learnt, pow8-reads.Asked, pow8-reads.Learnt, colour-reads.Asked, colour-reads.Learnt, push-reads.Asked, push-reads.Learnt, split-reads.Asked, split-reads.Learnt, axes-reads.Asked, axes-reads.Learnt, shift-children-below t, shift-children.Post)
 
 abbrev children-calls : ℕ → shift-children-lts.Claims
-children-calls t = (pow8-reads.Asked, pow8-reads.Learnt, pick-reads.Asked, pick-reads.Learnt, shift-cell-below t, shift-cell.Post)
+children-calls t = (pow8-reads.Asked, pow8-reads.Learnt, carry-label-reads.Asked, carry-label-reads.Learnt, sum-label-reads.Asked, sum-label-reads.Learnt, copy-slot-reads.Asked, copy-slot-reads.Learnt, pick-reads.Asked, pick-reads.Learnt, shift-cell-below t, shift-cell.Post)
 
 -- ---- the cell
 
@@ -98,24 +91,42 @@ module _ (t : ℕ) (q : shift-cell-lts.After-colour (cell-calls t) (shift-cell-a
 -- ---- the children
 
 abbrev shift-children-Inv-loop : shift-children-lts.InvT-loop
-shift-children-Inv-loop depth l w p out₀ k f span h s₀ v₀ m₀ out s v m = Children depth (shifted depth l w) v₀ out₀ s₀ span out s v m
+shift-children-Inv-loop depth l w out₀ p k f span h s₀ v₀ m₀ out s v m = Children depth (shifted depth l w) v₀ out₀ s₀ span out s v m
 
 abbrev shift-children-μ-loop : shift-children-lts.MeasureT-loop
-shift-children-μ-loop depth l w p out₀ k f span h s₀ v₀ m₀ out s v m = 8 - m
+shift-children-μ-loop depth l w out₀ p k f span h s₀ v₀ m₀ out s v m = 8 - m
 
 module _ (t : ℕ) (p : shift-children-lts.In-loop (children-calls t) (shift-children-at t) shift-children.Post shift-children-Inv-loop shift-children-μ-loop) where
   abbrev entry : shift-children-lts.Start (children-calls t) (shift-children-at t) shift-children.Post shift-children-Inv-loop shift-children-μ-loop
   entry = p .before .before .before .before .before
 
-  abbrev divides : Divides (entry .args .depth) (entry .args .l .now) (entry .args .w) (entry .args .c) (entry .args .p) (entry .args .r)
+  abbrev divides : Divides (entry .args .depth) (entry .args .l .now) (entry .args .w) (entry .args .c) (entry .args .t5) (entry .args .r)
   divides = entry .pre .1
 
+  abbrev h : ℕ
+  h = entry .args .w / 2 ^ (3 * entry .args .c .k) % 8
+
+  abbrev turn : shift-children-lts.At-loop·own (children-calls t) (shift-children-at t) shift-children.Post shift-children-Inv-loop shift-children-μ-loop (p .before .before)
+  turn = p .before .loop
+
+  abbrev Child : List Slot → Type 0
+  Child x = Aimed (entry .args .depth) (entry .args .l .now) (entry .args .w) (record { from = turn .v; k = entry .args .c .k; axes = entry .args .c .axes }) x (turn .s)
+
+  -- child m, with the slots that the labels pick
+  child : (x : List Slot) → ((q : ℕ) → q < 8 → Uses (entry .args .c .axes) q → slotAt x q ≡ partAt (entry .args .t5) (carryLabel h (turn .m) q) (sumLabel h (turn .m) q)) → Child x
+  child x pick =
+      let place = turn .inv .place ∙ ap (λ (y : ℕ). entry .args .c .from + turn .m * y) (p .before .before .pow8 .ensures) in
+      child-aimed divides h (turn .m) (turn .v) (ap (λ (y : ℕ). entry .args .w / y % 8) (pow8-bits (entry .args .c .k))) (p .loop-test .taken) place pick (turn .inv .fed .ready)
+
+  -- where no axis can carry, slot 0 is all that is needed
+  lone : entry .args .c .axes ≡ 0 → (a b : ℕ) → a ≡ carryLabel h (turn .m) 0 → b ≡ sumLabel h (turn .m) 0 → Child (eightOf (partAt (entry .args .t5) a b))
+  lone none a b e g = child (eightOf _) (λ q lt u. rw (none-used q lt (rw none at u), e, g))
+
   -- child m ends within the root
-  within-root : p .before .loop .v + p .before .before .pow8 .result ≤ 8 ^ entry .args .depth
+  within-root : turn .v + p .before .before .pow8 .result ≤ 8 ^ entry .args .depth
   within-root =
-      let u = p .before .loop in
       let r = p .before .before .pow8 in
-      omega (arith, child-within (u .m) (r .result) (p .loop-test .taken), pow8-suc (entry .args .c .k), r .ensures, u .inv .place, divides .root)
+      omega (arith, child-within (turn .m) (r .result) (p .loop-test .taken), pow8-suc (entry .args .c .k), r .ensures, turn .inv .place, divides .root)
 
 pub +shift-cell+shift-children-spec : {M : Type 1} → statement M
 +shift-cell+shift-children-spec =
@@ -131,16 +142,11 @@ pub +shift-cell+shift-children-spec : {M : Type 1} → statement M
     (λ c. search needs) (λ c. search needs)
     (λ c. let p = piece t (c .before .before) in record { fits = omega (arith, p .root, pow8-small _ (p .deep)) })
     (λ c κs. piece t (c .before .before .before))
-    (λ c. search needs)
-    (λ c. parent t (c .before .before))
+    (λ c. search needs) (λ c. parent t (c .before .before))
     (λ c κs. let q = c .before .before in (omega (arith, aimed t q .axes, need-lt (start t q .args .c .k) (start t q .args .w)), aimed-above (aimed t q) _ (level t q)))
     (λ c. parent t (c .before .before .before)) (λ c. parent t (c .before .before .before))
     (λ c κs. search needs)
-    (λ c κs.
-    let axes = c .before in
-    let split = axes .before in
-    let q = split .before .before .before in
-    (omega (arith, start t q .pre .0, parent t q), aimed-divides (aimed t q) _ (level t q) (axes .axes .result) (axes .axes .ensures) (split .split .result) (split .split .ensures)))
+    (λ c κs. let axes = c .before in let split = axes .before in let q = split .before .before .before in (omega (arith, start t q .pre .0, parent t q), aimed-divides (aimed t q) _ (level t q) (axes .axes .result) (axes .axes .ensures) (split .split .result) (split .split .ensures)))
     (λ c.
     let q = c .before .before in
     fed-white _ _ _ _ _ _ (omega arith) (aimed t q .root) (aimed-colour (aimed t q) _ (wide t q) (q .colour .ensures) false (c .enum-told .given .1)) (aimed t q .ready))
@@ -157,19 +163,20 @@ pub +shift-cell+shift-children-spec : {M : Type 1} → statement M
     (λ c κs. omega (arith, c .before .before .pre .1 .level, c .before .before .pre .1 .source .deep))
     (λ c. search needs) (λ c. search needs)
     (λ c. children-none (c .before .before .before .pre .1 .ready))
+    (λ c κs. (omega arith, omega arith, omega arith)) (λ c. search needs) (λ c κs. (omega arith, omega arith, omega arith)) (λ c. search needs) (λ c. search needs) (λ c. search needs) (λ c. search needs) (λ c. search needs)
+    (λ c κs. let sum = c .before .before in let carry = sum .before in aimed-copying (lone t (carry .before .before) (carry .before .if1 .taken) _ _ (carry .carry-label .ensures .0) (sum .sum-label .ensures .0)))
     (λ c κs. (omega arith, omega arith))
-    (λ c κs.
-    let p = c .before .before in
-    let a = entry t p .args in
-    let u = p .before .loop in
-    let place = u .inv .place ∙ ap (λ (y : ℕ). a .c .from + u .m * y) (p .before .before .pow8 .ensures) in
-    (omega (arith, entry t p .pre .0), child-aimed (divides t p) (a .w / 2 ^ (3 * a .c .k) % 8) (u .m) (u .v) (ap (λ (y : ℕ). a .w / y % 8) (pow8-bits (a .c .k))) (p .loop-test .taken) place (c .before .pick .ensures) (u .inv .fed .ready)))
-    (λ c. let p = c .before .before .before .before .before in record { fits = omega (arith, within-root t p, pow8-small (entry t p .args .depth) (divides t p .source .deep)) })
+    (λ c κs. let p = c .before .before .before in (omega (arith, entry t p .pre .0), child t p _ (λ q g u. c .before .pick .ensures q g)))
+    (λ c. record { fits = omega (arith, within-root t (c .before), pow8-small (entry t (c .before) .args .depth) (divides t (c .before) .source .deep)) })
     (λ c. search needs) (λ c. search needs)
     (λ c.
-    let p = c .before .before .before .before .before in
-    let q = c .before .before .shift-cell in
-    children-more (p .before .loop .inv) (p .loop-test .taken) (p .before .before .pow8 .ensures) (q .kept .1 .1 .1 .1 .1 .1 .0) (q .ensures))
+    let p = c .before in
+    ⊎-elim
+    (λ w.
+    let x = lone t p (w .0 .taken) _ _ (w .1 .ensures .0) (w .2 .ensures .0) in
+    rw (w .8, w .9) (children-more (turn t p .inv) (p .loop-test .taken) (p .before .before .pow8 .ensures) (w .5 .kept .1 .1 .1 .1 .1 .0) (w .5 .ensures _ _ (x .slots 0 (omega arith) (uses-none _)) (aimed-copies x (w .0 .taken)))))
+    (λ w. rw (w .6, w .7) (children-more (turn t p .inv) (p .loop-test .taken) (p .before .before .pow8 .ensures) (w .3 .kept .1 .1 .1 .1 .1 .1 .0) (w .3 .ensures)))
+    (c .if1 .came))
     (λ c. c .before .loop .inv .size)
     (λ c.
     let k = c .before .before .before .before .before .args .c .k in

@@ -33,15 +33,6 @@ module _ (c : tie.In-loop Inv-loop μ-loop) where
   comes : Comes (begun .args .depth) (found .cell-from .result) (begun .args .c .from) (getD (begun .args .l .now) (c .before .loop .i) 0) (c .before .loop .t)
   comes = copied-leaf (begun .pre .0 .held) (begun .pre .1) (at found) (begun .pre .0 .root) (c .before .loop .inv) (c .loop-test .taken)
 
-loop-again : tie.Need-loop-again Inv-loop μ-loop
-loop-again c =
-    let push = c .before .before in
-    let width = push .before .before in
-    let turn = width .before .before .before in
-    let s = begun turn in
-    copied-next (s .pre .0 .held) (s .pre .1) (at (found turn)) (s .pre .0 .root) (turn .before .loop .inv) (turn .loop-test .taken)
-    (width .before .first .result) (width .width .result) (width .before .first .ensures) (width .width .ensures) (push .push .kept .1 .1 .1 .1 .1 .0) (push .push .ensures)
-
 pub copy-leaves-spec : {M : Type 1} → statement M
 copy-leaves-spec =
     tie.close
@@ -59,7 +50,13 @@ copy-leaves-spec =
     record { fits = omega (arith, c .before .first .ensures, c .width .ensures, p .root, pow8-small _ (p .deep)) })
     (λ c κs. rw (c .before .before .first .ensures, c .before .width .ensures) (comes (c .before .before .before .before) .piece))
     (λ c. search needs) (λ c. search needs)
-    loop-again
+    (λ c.
+    let push = c .before .before in
+    let width = push .before .before in
+    let turn = width .before .before .before in
+    let s = begun turn in
+    copied-next (s .pre .0 .held) (s .pre .1) (at (found turn)) (s .pre .0 .root) (turn .before .loop .inv) (turn .loop-test .taken)
+    (width .before .first .result) (width .width .result) (width .before .first .ensures) (width .width .ensures) (push .push .kept .1 .1 .1 .1 .1 .0) (push .push .ensures))
     (λ c. c .before .loop .inv .size)
     (λ c P b y h.
     let f = c .before .before in

@@ -7,13 +7,13 @@ use Rattle.shifts.proofs.Tables.{or-is}
 use Rattle.shifts.proofs.inner.labels.within.Statement.{statement}
 use Rattle.shifts.proofs.inner.labels.within.Tie as tie
 
-returns : tie.Need-returns
-returns c =
+pub within-spec : {M : Type 1} → statement M
+within-spec =
+    tie.close
+    (tie.spec
+    (λ c.
     let a = c .args in
     let e = or-is (a .f) (a .q) (c .pre .0) (c .pre .1) in (
       (λ t. uses-of (a .f) (a .q) (sym e ∙ eqb-true (bitOr (a .f) (a .q)) (a .f) t)),
       λ t u. eqb-false (bitOr (a .f) (a .q)) (a .f) t (e ∙ uses-join (a .f) (a .q) (c .pre .0) u),
-    )
-
-pub within-spec : {M : Type 1} → statement M
-within-spec = tie.close (tie.spec returns)
+    )))
