@@ -99,18 +99,19 @@ r0-before : end 2 8 ≤ start 2 81
 unfolding level index span start
 r0-before = lit≤ tt
 
-r2-meets : (start 2 81 < end 2 10) × (start 2 10 < end 2 81)
+r2-meets : (start 2 10 < end 2 81) × (start 2 81 < end 2 10)
 unfolding level index span start
 r2-meets = (lit< tt, lit< tt)
 
 bigger : MetPart 2 two 81 1 1
-bigger = part-made 2 two 81 1 1 (lit≤ tt) before (λ i a b. absurd (omega arith)) inside (λ z. absurd (omega arith))
+bigger =
+    part-made 2 two 81 1 1 (record { order = lit≤ tt; within = lit≤ tt; before = before; after = λ i a b. absurd (omega arith); meets = inside }) (λ z. absurd (omega arith))
   where
     before : (i : ℕ) → i < 1 → end 2 (getD two i 0) ≤ start 2 81
     before zero h = r0-before
     before (suc i) h = absurd (omega arith)
 
-    inside : (i : ℕ) → 1 ≤ i → i < 2 → (start 2 81 < end 2 (getD two i 0)) × (start 2 (getD two i 0) < end 2 81)
+    inside : (i : ℕ) → 1 ≤ i → i < 2 → (start 2 (getD two i 0) < end 2 81) × (start 2 81 < end 2 (getD two i 0))
     inside zero a b = absurd (omega arith)
     inside (suc zero) a b = r2-meets
     inside (suc (suc i)) a b = absurd (omega arith)

@@ -9,19 +9,20 @@ use lib.ListN.{length, getD}
 use Rattle.cells.specs.Cell.{start, end}
 use Rattle.records.specs.Record.{Ordered}
 use Rattle.records.specs.Met.{Meets, MetPart}
+use Rattle.records.specs.Slot.{PartOf}
 use Rattle.cells.proofs.Power.{le-or-lt}
 use Rattle.cells.proofs.Cells.{span-pos}
 use Rattle.records.proofs.Lists.{holds-true, held}
 use Rattle.records.proofs.Fault.{in-order}
 
 -- two cells meet just where neither ends before the other begins
-pub meets-iff : (D c m : ℕ) → Meets D c m ↔ ((start D m < end D c) × (start D c < end D m))
+pub meets-iff : (D c m : ℕ) → Meets D c m ↔ ((start D c < end D m) × (start D m < end D c))
 meets-iff D c m = (to, back)
   where
-    to : Meets D c m → (start D m < end D c) × (start D c < end D m)
+    to : Meets D c m → (start D c < end D m) × (start D m < end D c)
     to (v, h, k) = let a = holds-true D c v h in let b = holds-true D m v k in omega arith
 
-    back : (start D m < end D c) × (start D c < end D m) → Meets D c m
+    back : (start D c < end D m) × (start D m < end D c) → Meets D c m
     back (h, k) =
         let a = span-pos D c in
         let b = span-pos D m in
@@ -45,21 +46,19 @@ pub together : (D : ℕ) (l : List ℕ) → Ordered D 0 l → (m i j k : ℕ) �
 together D l o m i j k a b h p q =
     let (x, y) = meets-iff D (getD l i 0) m .0 p in
     let (z, w) = meets-iff D (getD l k 0) m .0 q in
-    meets-iff D (getD l j 0) m .1 (omega (arith, ends-rise D l o i j a (omega arith)), omega (arith, starts-rise D l o j k b h))
+    meets-iff D (getD l j 0) m .1 (omega (arith, starts-rise D l o j k b h), omega (arith, ends-rise D l o i j a (omega arith)))
 
 -- ---- the part of the leaves that meet a cell
 
-module _ (D : ℕ) (l : List ℕ) (m at n : ℕ) where
-  -- the leaves before it end before the cell begins, those after it start after its end, and its own meet the cell
-  pub part-made : at + n ≤ length l → ((i : ℕ) → i < at → end D (getD l i 0) ≤ start D m) → ((i : ℕ) → at + n ≤ i → i < length l → end D m ≤ start D (getD l i 0))
-      → ((i : ℕ) → at ≤ i → i < at + n → (start D m < end D (getD l i 0)) × (start D (getD l i 0) < end D m))
-      → (n ≡ 0 → (i : ℕ) → i < length l → (i < at) ↔ (start D (getD l i 0) < start D m)) → MetPart D l m at n
-  part-made w before after inside ins = record { within = w; met = λ i h. (λ t. meets-iff D (getD l i 0) m .1 (inside i (t .0) (t .1)), λ t. back i h (meets-iff D (getD l i 0) m .0 t) (le-or-lt at i) (le-or-lt (at + n) i)); inserted = ins }
-    where
-      back : (i : ℕ) → i < length l → (start D m < end D (getD l i 0)) × (start D (getD l i 0) < end D m) → (at ≤ i) ⊎ (i < at) → (at + n ≤ i) ⊎ (i < at + n) → (at ≤ i) × (i < at + n)
-      back i h t (inl a) (inr b) = (a, b)
-      back i h t (inr a) b = absurd (omega (arith, before i a))
-      back i h t (inl a) (inl b) = absurd (omega (arith, after i b h))
+-- where it has none, its place is to be known besides
+pub part-made : (D : ℕ) (l : List ℕ) (m at n : ℕ) → PartOf D l (start D m) (end D m) at (at + n)
+    → (n ≡ 0 → (i : ℕ) → i < length l → (i < at) ↔ (start D (getD l i 0) < start D m)) → MetPart D l m at n
+part-made D l m at n p ins = record { within = p .within; met = λ i h. (λ t. meets-iff D (getD l i 0) m .1 (p .meets i (t .0) (t .1)), λ t. back i h (meets-iff D (getD l i 0) m .0 t) (le-or-lt at i) (le-or-lt (at + n) i)); inserted = ins }
+  where
+    back : (i : ℕ) → i < length l → (start D (getD l i 0) < end D m) × (start D m < end D (getD l i 0)) → (at ≤ i) ⊎ (i < at) → (at + n ≤ i) ⊎ (i < at + n) → (at ≤ i) × (i < at + n)
+    back i h t (inl a) (inr b) = (a, b)
+    back i h t (inr a) b = absurd (omega (arith, p .before i a))
+    back i h t (inl a) (inl b) = absurd (omega (arith, p .after i b h))
 
 -- ---- there is only one
 

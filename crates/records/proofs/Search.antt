@@ -77,10 +77,16 @@ module _ (D : ℕ) (l : List ℕ) (o : Ordered D 0 l) where
     part-is a h before reach =
         let low = t .low in
         let high = t .high in
-        part-made D l m a (e - a) (omega arith) before (λ i b k. t .above i (omega arith) k)
-        (λ i x y.
-        ⊎-elim (λ (g : at ≤ i). (omega (arith, s .above i g (omega arith), span-pos D (getD l i 0)), t .below i g (omega arith)))
-        (λ (g : i < at). (reach i x g, omega (arith, s .below i zero-le g, span-pos D m))) (le-or-lt at i))
+        part-made D l m a (e - a)
+        (record {
+          order = omega arith;
+          within = omega arith;
+          before = before;
+          after = λ i b k. t .above i (omega arith) k;
+          meets = λ i x y.
+              ⊎-elim (λ (g : at ≤ i). (t .below i g (omega arith), omega (arith, s .above i g (omega arith), span-pos D (getD l i 0))))
+              (λ (g : i < at). (omega (arith, s .below i zero-le g, span-pos D m), reach i x g)) (le-or-lt at i);
+        })
         (λ z i k. (λ x. s .below i zero-le (omega arith), λ x. ⊎-elim (λ (g : at ≤ i). absurd (omega (arith, s .above i g k))) (λ (g : i < at). omega arith) (le-or-lt at i)))
 
     pub part-from : reaches D l at (start D m) ≡ false → MetPart D l m at (e - at)

@@ -45,10 +45,10 @@ module _ {D n b : ℕ} {l : List ℕ} {s : Slot} (x : Of D l n b s) where
       ⊎-elim
       (λ (p : s .lo ≤ i).
       ⊎-elim
-      (λ (q : s .hi ≤ i). before-cell D (getD l i 0) u (omega (arith, x .after i q g)))
+      (λ (q : s .hi ≤ i). before-cell D (getD l i 0) u (omega (arith, x .leaves .after i q g)))
       (λ (q : i < s .hi). h i p q)
       (le-or-lt (s .hi) i))
-      (λ (p : i < s .lo). after-cell D (getD l i 0) u (omega (arith, x .before i p)))
+      (λ (p : i < s .lo). after-cell D (getD l i 0) u (omega (arith, x .leaves .before i p)))
       (le-or-lt (s .lo) i))
 
   -- the first leaf has all of the cell
@@ -57,11 +57,11 @@ module _ {D n b : ℕ} {l : List ℕ} {s : Slot} (x : Of D l n b s) where
     leaf = getD l (s .lo) 0
 
     leaf-proper : proper D leaf ≡ true
-    leaf-proper = proper-at D l (o .ordered) (s .lo) (omega (arith, t .0, x .within))
+    leaf-proper = proper-at D l (o .ordered) (s .lo) (omega (arith, t .0, x .leaves .within))
 
     covers : (start D leaf ≤ b * 8 ^ n) × (b * 8 ^ n + 8 ^ n ≤ end D leaf)
     covers =
-        let met = x .meets (s .lo) (omega arith) (t .0) in
+        let met = x .leaves .meets (s .lo) (omega arith) (t .0) in
         (big-from D leaf leaf-proper b n (t .1) (met .0), big-to D leaf leaf-proper b n (t .1) (met .1))
 
     -- it is the only one
@@ -69,13 +69,13 @@ module _ {D n b : ℕ} {l : List ℕ} {s : Slot} (x : Of D l n b s) where
     alone i p q =
         ⊎-elim
         (λ (g : i ≤ s .lo). omega arith)
-        (λ (g : s .lo < i). absurd (omega (arith, in-order D 0 l (o .ordered) (s .lo) i g (omega (arith, x .within)), covers, x .meets i p q)))
+        (λ (g : s .lo < i). absurd (omega (arith, in-order D 0 l (o .ordered) (s .lo) i g (omega (arith, x .leaves .within)), covers, x .leaves .meets i p q)))
         (le-or-lt i (s .lo))
 
   -- the tint of one colour: all of the cell has it
   pub slot-colour : Source D l → (c : Bool) → SlotTint D l (8 ^ n) s (tintOf c) → (u : ℕ) → b * 8 ^ n ≤ u → u < b * 8 ^ n + 8 ^ n → black D l u ≡ c
   slot-colour o false t u v e = slot-off u v e (λ i p q. absurd (omega arith))
-  slot-colour o true t u v e = black-at D l (s .lo) u (omega (arith, t .0, x .within)) (held D (leaf o t) u (omega (arith, covers o t)) (omega (arith, covers o t)))
+  slot-colour o true t u v e = black-at D l (s .lo) u (omega (arith, t .0, x .leaves .within)) (held D (leaf o t) u (omega (arith, covers o t)) (omega (arith, covers o t)))
 
 -- the slot of cell b, by that number
 abbrev pub at-cell : {D n b : ℕ} {l : List ℕ} {s : Slot} → OfCell D l n s → Of D l n b s → OfCell D l n s
@@ -84,7 +84,7 @@ at-cell {D} {n} {b} x y = record { source = x .source; level = x .level; cell = 
 -- The first leaf is smaller than the cell: so are all, and they lie within it.
 module _ {D n : ℕ} {l : List ℕ} {s : Slot} (x : OfCell D l n s) (mixed : SlotTint D l (8 ^ n) s Mixed) where
   pub slot-proper : (i : ℕ) → i < s .hi → proper D (getD l i 0) ≡ true
-  slot-proper i h = proper-at D l (x .source .ordered) i (omega (arith, x .part .within))
+  slot-proper i h = proper-at D l (x .source .ordered) i (omega (arith, x .part .leaves .within))
 
   pub slot-less : (i : ℕ) → s .lo ≤ i → i < s .hi → span D (getD l i 0) < 8 ^ n
   slot-less i p q =
@@ -92,24 +92,24 @@ module _ {D n : ℕ} {l : List ℕ} {s : Slot} (x : OfCell D l n s) (mixed : Slo
       (λ (g : 8 ^ n ≤ span D (getD l i 0)).
       ⊎-elim
       (λ (h : i ≤ s .lo). let e : i ≡ s .lo = omega arith in absurd (omega (arith, mixed .1, ap (λ (j : ℕ). span D (getD l j 0)) e)))
-      (λ (h : s .lo < i). absurd (omega (arith, in-order D 0 l (x .source .ordered) (s .lo) i h (omega (arith, x .part .within)), big-from D (getD l i 0) (slot-proper i q) (x .cell) n g (x .part .meets i p q .0), x .part .meets (s .lo) (omega arith) (mixed .0) .1)))
+      (λ (h : s .lo < i). absurd (omega (arith, in-order D 0 l (x .source .ordered) (s .lo) i h (omega (arith, x .part .leaves .within)), big-from D (getD l i 0) (slot-proper i q) (x .cell) n g (x .part .leaves .meets i p q .0), x .part .leaves .meets (s .lo) (omega arith) (mixed .0) .1)))
       (le-or-lt i (s .lo)))
       (λ (g : span D (getD l i 0) < 8 ^ n). g)
       (le-or-lt (8 ^ n) (span D (getD l i 0)))
 
   pub slot-low : (i : ℕ) → s .lo ≤ i → i < s .hi → x .cell * 8 ^ n ≤ start D (getD l i 0)
-  slot-low i p q = small-after D (getD l i 0) (slot-proper i q) (x .cell) n (omega (arith, slot-less i p q)) (x .part .meets i p q .1)
+  slot-low i p q = small-after D (getD l i 0) (slot-proper i q) (x .cell) n (omega (arith, slot-less i p q)) (x .part .leaves .meets i p q .1)
 
   pub slot-high : (i : ℕ) → s .lo ≤ i → i < s .hi → end D (getD l i 0) ≤ x .cell * 8 ^ n + 8 ^ n
   slot-high i p q =
       let e = suc-mul (x .cell) (8 ^ n) in
-      omega (arith, small-before D (getD l i 0) (slot-proper i q) (suc (x .cell)) n (omega (arith, slot-less i p q)) (omega (arith, x .part .meets i p q .0)))
+      omega (arith, small-before D (getD l i 0) (slot-proper i q) (suc (x .cell)) n (omega (arith, slot-less i p q)) (omega (arith, x .part .leaves .meets i p q .0)))
 
   -- where the cell is, as the code finds it
   pub slot-cell : start D (getD l (s .lo) 0) / 8 ^ n ≡ x .cell
   slot-cell =
       let low = slot-low (s .lo) (omega arith) (mixed .0) in
-      ap (λ (y : ℕ). y / 8 ^ n) (omega arith) ∙ digits-div (x .cell) {m = 8 ^ n} {r = start D (getD l (s .lo) 0) - x .cell * 8 ^ n} (omega (arith, x .part .meets (s .lo) (omega arith) (mixed .0) .0))
+      ap (λ (y : ℕ). y / 8 ^ n) (omega arith) ∙ digits-div (x .cell) {m = 8 ^ n} {r = start D (getD l (s .lo) 0) - x .cell * 8 ^ n} (omega (arith, x .part .leaves .meets (s .lo) (omega arith) (mixed .0) .0))
 
 -- ---- the parts of a slot: one for each child
 
@@ -117,11 +117,13 @@ module _ {D n : ℕ} {l : List ℕ} {s : Slot} (x : OfCell D l n s) (mixed : Slo
 module _ {D n b : ℕ} {l : List ℕ} {s : Slot} (x : Of D l (suc n) b s) (m : ℕ) (m<8 : m < 8) where
   whole : ((i : ℕ) → s .lo ≤ i → i < s .hi → (start D (getD l i 0) ≤ b * 8 ^ suc n) × (b * 8 ^ suc n + 8 ^ suc n ≤ end D (getD l i 0))) → Of D l n (8 * b + m) s
   whole h = record {
-    order = x .order;
-    within = x .within;
-    before = λ i p. omega (arith, x .before i p, edge b m n);
-    after = λ i p q. omega (arith, x .after i p q, edge b m n, inside m n m<8);
-    meets = λ i p q. (omega (arith, h i p q, edge b m n, pow8-pos n), omega (arith, h i p q, edge b m n, inside m n m<8, pow8-pos n));
+    leaves = record {
+      order = x .leaves .order;
+      within = x .leaves .within;
+      before = λ i p. omega (arith, x .leaves .before i p, edge b m n);
+      after = λ i p q. omega (arith, x .leaves .after i p q, edge b m n, inside m n m<8);
+      meets = λ i p q. (omega (arith, h i p q, edge b m n, pow8-pos n), omega (arith, h i p q, edge b m n, inside m n m<8, pow8-pos n));
+    };
   }
 
   pub slot-whole : Source D l → (c : Bool) → SlotTint D l (8 ^ suc n) s (tintOf c) → Of D l n (8 * b + m) s
@@ -148,7 +150,7 @@ module _ {D n : ℕ} {l : List ℕ} {s : Slot} (x : OfCell D l (suc n) s) (mixed
   pub cut-none : Cut D l b n (s .lo) (s .hi) 0 (s .lo)
   cut-none = record {
     low = omega arith;
-    high = x .part .order;
+    high = x .part .leaves .order;
     below = λ j p q. absurd (omega arith);
     above = λ j p q. omega (arith, edge b 0 n, slot-low x mixed j p q);
   }
@@ -164,19 +166,21 @@ module _ {D n : ℕ} {l : List ℕ} {s : Slot} (x : OfCell D l (suc n) s) (mixed
 
     pub cut-part : m < 8 → Of D l n (8 * b + m) (record { lo = i; hi = e })
     cut-part h = record {
-      order = f .low;
-      within = omega (arith, f .high, x .part .within);
-      before = λ j p.
-          ⊎-elim
-          (λ (g : s .lo ≤ j). let in-slot : j < s .hi = omega (arith, k .high) in small-before D (getD l j 0) (slot-proper x mixed j in-slot) (8 * b + m) n (small j g in-slot) (k .below j g p))
-          (λ (g : j < s .lo). omega (arith, x .part .before j g, edge b m n))
-          (le-or-lt (s .lo) j);
-      after = λ j p q.
-          ⊎-elim
-          (λ (g : s .hi ≤ j). omega (arith, x .part .after j g q, edge b m n, inside m n h))
-          (λ (g : j < s .hi). omega (arith, f .above j p g, edge-next b m n))
-          (le-or-lt (s .hi) j);
-      meets = λ j p q. (omega (arith, f .below j p q, edge-next b m n), omega (arith, k .above j p (omega (arith, f .high)), span-pos D (getD l j 0)));
+      leaves = record {
+        order = f .low;
+        within = omega (arith, f .high, x .part .leaves .within);
+        before = λ j p.
+            ⊎-elim
+            (λ (g : s .lo ≤ j). let in-slot : j < s .hi = omega (arith, k .high) in small-before D (getD l j 0) (slot-proper x mixed j in-slot) (8 * b + m) n (small j g in-slot) (k .below j g p))
+            (λ (g : j < s .lo). omega (arith, x .part .leaves .before j g, edge b m n))
+            (le-or-lt (s .lo) j);
+        after = λ j p q.
+            ⊎-elim
+            (λ (g : s .hi ≤ j). omega (arith, x .part .leaves .after j g q, edge b m n, inside m n h))
+            (λ (g : j < s .hi). omega (arith, f .above j p g, edge-next b m n))
+            (le-or-lt (s .hi) j);
+        meets = λ j p q. (omega (arith, f .below j p q, edge-next b m n), omega (arith, k .above j p (omega (arith, f .high)), span-pos D (getD l j 0)));
+      };
     }
 
 -- ---- a slot that is repeated

@@ -15,13 +15,17 @@ pub record Source (D : ℕ) (l : List ℕ) : Type 0 where
   pub deep : D ≤ deepest
   pub ordered : Ordered D 0 l
 
--- slot s has the leaves of l that meet the cell of number b with n levels left: those from place lo up to place hi
+-- the leaves of l from place lo up to place hi are those that meet the voxels from a up to z
+pub record PartOf (D : ℕ) (l : List ℕ) (a z lo hi : ℕ) : Type 0 where
+  pub order : lo ≤ hi
+  pub within : hi ≤ length l
+  pub before : (i : ℕ) → i < lo → end D (getD l i 0) ≤ a
+  pub after : (i : ℕ) → hi ≤ i → i < length l → z ≤ start D (getD l i 0)
+  pub meets : (i : ℕ) → lo ≤ i → i < hi → (start D (getD l i 0) < z) × (a < end D (getD l i 0))
+
+-- slot s has the leaves of l that meet the cell of number b with n levels left
 pub record Of (D : ℕ) (l : List ℕ) (n b : ℕ) (s : Slot) : Type 0 where
-  pub order : s .lo ≤ s .hi
-  pub within : s .hi ≤ length l
-  pub before : (i : ℕ) → i < s .lo → end D (getD l i 0) ≤ b * 8 ^ n
-  pub after : (i : ℕ) → s .hi ≤ i → i < length l → b * 8 ^ n + 8 ^ n ≤ start D (getD l i 0)
-  pub meets : (i : ℕ) → s .lo ≤ i → i < s .hi → (start D (getD l i 0) < b * 8 ^ n + 8 ^ n) × (b * 8 ^ n < end D (getD l i 0))
+  pub leaves : PartOf D l (b * 8 ^ n) (b * 8 ^ n + 8 ^ n) (s .lo) (s .hi)
 
 -- the tint of a cell of one colour
 abbrev pub tintOf : Bool → Tint

@@ -50,7 +50,7 @@ module _ {D n base from : ℕ} {l : List ℕ} {s : Slot} {out₀ : List ℕ} {r�
     low = omega arith;
     top = omega arith;
     first = omega arith;
-    last = x .part .order;
+    last = x .part .leaves .order;
     before = λ j a b. absurd (omega arith);
     next = λ j a b. omega (arith, slot-low x mixed j a b);
     ready = h;
@@ -92,7 +92,7 @@ module _ {D n base from : ℕ} {l : List ℕ} {s : Slot} {out₀ : List ℕ} {r�
       later j a b =
           ⊎-elim
           (λ (e : j ≤ i). let q : i ≡ j = omega arith in subst (λ (m : ℕ). start D leaf ≤ start D (getD l m 0)) q (omega arith))
-          (λ (e : i < j). omega (arith, in-order D 0 l (x .source .ordered) i j e (omega (arith, x .part .within))))
+          (λ (e : i < j). omega (arith, in-order D 0 l (x .source .ordered) i j e (omega (arith, x .part .leaves .within))))
           (le-or-lt j i)
 
       pub copied-leaf : Comes D base from leaf r
@@ -122,7 +122,7 @@ module _ {D n base from : ℕ} {l : List ℕ} {s : Slot} {out₀ : List ℕ} {r�
             (λ (e : i ≤ j). let q : i ≡ j = omega arith in subst (λ (m : ℕ). end D (getD l m 0) ≤ base + (place + span D leaf - from)) q (omega (arith, low)))
             (λ (e : j < i). omega (arith, k .before j a e, k .next i (omega arith) here, k .low, low))
             (le-or-lt i j);
-        next = λ j a b. omega (arith, in-order D 0 l (x .source .ordered) i j (omega arith) (omega (arith, x .part .within)), low);
+        next = λ j a b. omega (arith, in-order D 0 l (x .source .ordered) i j (omega arith) (omega (arith, x .part .leaves .within)), low);
         ready = pushed (λ v. true) (λ v a b. refl) .ready;
         fed = λ P h.
             let white = fed-white D P (k .p) place out r past (omega (arith, top, root)) (gap P h place (omega (arith, top)) (λ j a b. omega (arith, later j a b, low))) (k .ready) in
@@ -136,7 +136,7 @@ module _ {D n base from : ℕ} {l : List ℕ} {s : Slot} {out₀ : List ℕ} {r�
           black-leaf : (P : ℕ → Bool) → From D l base from (8 ^ n) P → (v : ℕ) → place ≤ v → v < place + span D leaf → P v ≡ true
           black-leaf P h v a b =
               h v (omega arith) (omega (arith, top))
-              ∙ black-at D l i (base + (v - from)) (omega (arith, x .part .within)) (held D leaf (base + (v - from)) (omega (arith, low)) (omega (arith, low)))
+              ∙ black-at D l i (base + (v - from)) (omega (arith, x .part .leaves .within)) (held D leaf (base + (v - from)) (omega (arith, low)) (omega (arith, low)))
 
     pub copied-all : s .hi ≤ i → (P : ℕ → Bool) → From D l base from (8 ^ n) P → Fed D P from (from + 8 ^ n) out₀ r₀ out r
     copied-all g P h =

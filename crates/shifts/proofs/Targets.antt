@@ -130,11 +130,13 @@ whole-list : {D : ℕ} {l : List ℕ} → Source D l → Of D l D 0 (record { lo
 whole-list {D} {l} o =
     let z = zero-mul (8 ^ D) in
     record {
-      order = omega arith;
-      within = omega arith;
-      before = λ i h. absurd (omega arith);
-      after = λ i h g. absurd (omega arith);
-      meets = λ i h g. (omega (arith, within D (getD l i 0) (proper-at D l (o .ordered) i g), span-pos D (getD l i 0)), omega (arith, span-pos D (getD l i 0)));
+      leaves = record {
+        order = omega arith;
+        within = omega arith;
+        before = λ i h. absurd (omega arith);
+        after = λ i h g. absurd (omega arith);
+        meets = λ i h g. (omega (arith, within D (getD l i 0) (proper-at D l (o .ordered) i g), span-pos D (getD l i 0)), omega (arith, span-pos D (getD l i 0)));
+      };
     }
 
 pub root-aimed : {D f w : ℕ} {l : List ℕ} → Source D l → f ≡ need D w → Aimed D l w (record { from = 0; k = D; axes = f }) (eightOf (record { lo = 0; hi = length l })) (fresh 0 0)

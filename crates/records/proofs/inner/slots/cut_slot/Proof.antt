@@ -83,7 +83,7 @@ cut-slot-spec =
     (λ c κs. rw (add-one (c .before .before .args .k)) (c .before .before .pre))
     loop-holds
     add-v
-    (λ c κs. let x = start c .pre .0 in record { shallow = x .source .deep; ordered = x .source .ordered; rising = known c .cut .high; within = x .part .within })
+    (λ c κs. let x = start c .pre .0 in record { shallow = x .source .deep; ordered = x .source .ordered; rising = known c .cut .high; within = x .part .leaves .within })
     (λ c. search needs) (λ c. search needs) (λ c. search needs) (λ c. search needs)
     loop-again
     (λ c b y m h. c .before .loop .inv b y .filled .each m (omega (arith, c .loop-test .left))))

@@ -40,7 +40,7 @@ copy-leaves-spec =
     Inv-loop μ-loop (λ c κs. search needs)
     (λ c. let p = start c .pre in copied-none (p .0 .held) (p .1) (at c) (p .0 .root) (p .0 .ready))
     (λ c. search needs)
-    (λ c. omega (arith, c .before .loop-test .taken, begun (c .before) .pre .0 .held .part .within))
+    (λ c. omega (arith, c .before .loop-test .taken, begun (c .before) .pre .0 .held .part .leaves .within))
     (λ c κs. let x = comes (c .before) in (x .piece .deep, x .is-proper))
     (λ c. omega (arith, c .first .ensures, comes (c .before .before) .low))
     (λ c. let p = comes (c .before .before) .piece in record { fits = omega (arith, c .first .ensures, p .some, p .root, pow8-small _ (p .deep)) })

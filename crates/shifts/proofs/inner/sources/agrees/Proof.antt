@@ -8,7 +8,7 @@ agrees-spec =
     tie.close
     (tie.spec
     (λ c κs. search needs)
-    (λ c κs. let (n, x) = c .before .before .before .pre .2 (c .before .within .ensures .0 (c .if1 .taken)) in (x .source, x .part .within))
+    (λ c κs. let (n, x) = c .before .before .before .pre .2 (c .before .within .ensures .0 (c .if1 .taken)) in (x .source, x .part .leaves .within))
     (λ c κs. search needs)
     (λ c e u. rw (← c .same .ensures e) (c .before .tint-slot .ensures))
     (λ c e u. absurd (c .before .within .ensures .1 (c .if1 .left) u)))

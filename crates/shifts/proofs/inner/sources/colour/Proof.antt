@@ -29,7 +29,7 @@ colour-spec =
     tie.close
     (tie.spec
     Inv-loop μ-loop (λ c. search needs)
-    (λ c κs. let s = c .before .before in let x = s .pre .1 .1 0 (omega arith) (uses-none (s .args .f)) in (x .source, x .part .within))
+    (λ c κs. let s = c .before .before in let x = s .pre .1 .1 0 (omega arith) (uses-none (s .args .f)) in (x .source, x .part .leaves .within))
     (λ c. below-more _ 0 (below-none _) (λ u. c .tint-slot .ensures))
     (λ c. search needs) (λ c. search needs) (λ c. search needs)
     (λ c κs.
