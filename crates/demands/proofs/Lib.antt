@@ -13,8 +13,7 @@ pub mod Agreement
 pub mod WorkedMoves
 pub mod Worked
 pub mod Starred
--- how tight the statements are: no second answer, no impostor
-pub mod Unique
+-- how tight the statements are: named instances, and no impostor
 pub mod Named
 pub mod Impostors
 pub mod StoredImpostors

@@ -126,7 +126,7 @@ pub met-holds : MetOf 2 two (5, 0) 67 (axes (pos 0) (pos 1) (pos 0)) (10 ∷ [])
 met-holds = record { meeting = _; found = meeting; codes = refl; begins = refl }
 
 pub met-fails : MetOf 2 two (5, 0) 67 (axes (pos 0) (pos 1) (pos 0)) [] (5, 0) → ⊥
-met-fails h = let e : _≡_ {A = ℕ} 0 1 = ap length (one-met 2 two 67 (axes (pos 0) (pos 1) (pos 0)) (5, 0) [] (10 ∷ []) (5, 0) (5, 4) h met-holds .0) in omega arith
+met-fails h = let e : _≡_ {A = ℕ} 0 1 = ap (λ (t : List ℕ × (ℕ × ℕ)). length (t .0)) (one-met 2 two 67 (axes (pos 0) (pos 1) (pos 0)) (5, 0) ([], (5, 0)) (10 ∷ [], (5, 4)) h met-holds) in omega arith
 
 pub met-at-holds : MetAtOf 2 two 67 (axes (pos 0) (pos 1) (pos 0)) (given 1)
 met-at-holds = (_, meeting, refl)

@@ -39,9 +39,7 @@ module _ (D : ℕ) (l : List ℕ) (c : ℕ) (d : ℕ → ℤ) where
   one-met-at r s (t, x, e) (u, y, f) = e ∙ ap (λ (m : Meeting). m .answer) (one-meeting t u x y) ∙ sym f
 
   -- the part's content, and where it begins in memory; its length is its content's
-  pub one-met : (p : ℕ × ℕ) (r s : List ℕ) (a b : ℕ × ℕ) → MetOf D l p c d r a → MetOf D l p c d s b → (r ≡ s) × (a ≡ b)
-  one-met p r s a b x y =
-      let e : x .meeting ≡ y .meeting = one-meeting (x .meeting) (y .meeting) (x .found) (y .found) in (
-        x .codes ∙ ap (λ (t : Meeting). take (t .n) (drop (t .at) l)) e ∙ sym (y .codes),
-        x .begins ∙ ap (λ (t : Meeting). (p .0, p .1 + t .at * 4)) e ∙ sym (y .begins),
-      )
+  pub one-met : (p : ℕ × ℕ) → One (λ (t : List ℕ × (ℕ × ℕ)). MetOf D l p c d (t .0) (t .1))
+  one-met p r s x y =
+      let e : x .meeting ≡ y .meeting = one-meeting (x .meeting) (y .meeting) (x .found) (y .found) in
+      ap₂ (λ (a : List ℕ) (b : ℕ × ℕ). (a, b)) (x .codes ∙ ap (λ (t : Meeting). take (t .n) (drop (t .at) l)) e ∙ sym (y .codes)) (x .begins ∙ ap (λ (t : Meeting). (p .0, p .1 + t .at * 4)) e ∙ sym (y .begins))

@@ -8,9 +8,9 @@ use records::inner::slots::split_slot;
 use records::inner::slots::tint_slot;
 ghost use mathlib.Core.Path.{_≡_};
 ghost use mathlib.Core.Bool.{true};
-ghost use Prim.Native.Nat.{ℕ, suc, _+_, _*_, _<_};
+ghost use Prim.Native.Nat.{ℕ, suc, _+_, _<_};
 ghost use Rattle.shifts.specs.LabelSums.{sumLabel, carryLabel, Uses};
-ghost use Rattle.records.specs.Slot.{Of, OfCell, SlotTint, slotAt};
+ghost use Rattle.records.specs.Slot.{OfCell, SlotTint, slotAt};
 ghost use Rattle.shifts.specs.Descent.{Slots, OfCells, Divided, SlotsTint, partAt};
 
 // The parts of the slots that are needed.
