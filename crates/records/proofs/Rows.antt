@@ -88,6 +88,12 @@ run-true l (suc i) some = go (run-true l i) (eqb (getD l (suc i) 0 % 8) 0) refl 
         let later = eqb-false (getD l (suc i) 0 % 8) 0 h in
         (next-more _ _ _ later pos e, row-after l i later e (ih (λ z. omega arith) .1))
 
+-- a row is as long as its last label says
+pub run-last : (l : List ℕ) (i : ℕ) → (runOf l i ≡ 0 → ⊥) → runOf l i ≡ suc (lastOf l i % 8)
+unfolding runOf lastOf
+run-last l zero some = absurd (some refl)
+run-last l (suc i) some = run-true l i some .0
+
 -- eight siblings are a row of eight
 pub eight-run : (l : List ℕ) (i : ℕ) → (leb 7 i && eightAt l (i - 7)) ≡ eqb (runOf l (suc i)) 8
 eight-run l i = go (leb 7 i && eightAt l (i - 7)) refl

@@ -9,12 +9,12 @@ use cells::inner::success;
 use cells::inner::width;
 ghost use mathlib.Core.Path.{_≡_};
 ghost use mathlib.Core.List.{List};
-ghost use Prim.Native.Nat.{ℕ, _+_, _≤_};
+ghost use Prim.Native.Nat.{ℕ, suc, _+_, _%_, _≤_};
 ghost use lib.ListN.{length, getD};
 ghost use Rattle.cells.specs.Answer.{deepest};
 ghost use Rattle.records.specs.Record.{Ordered};
 ghost use Rattle.records.specs.Inner.{Searchable, Starts, reaches};
-ghost use Rattle.records.specs.Walk.{nextRun, Walked, JudgedOf};
+ghost use Rattle.records.specs.Walk.{nextRun, Faultless, Walked, JudgedOf};
 
 // What is kept of the leaves passed: the number of the fault that ended the walk, 0 while there is none; how many leaves it passed; the last one's code;
 // the voxel number after it; how many siblings in a row end with it; the voxels of all.
@@ -29,7 +29,7 @@ pub struct Walk {
 
 // The walk's beginning.
 pub fn begin() -> Walk
-    ensures { λ r. ⌜ ((D : ℕ) (l : List ℕ) → Walked D l 0 r) ⌝ }
+    ensures { λ r. ⌜ (r .number ≡ 0) × ((D : ℕ) (l : List ℕ) → Faultless D l 0 r) ⌝ }
 {
     Walk {
         number: 0,
@@ -57,6 +57,7 @@ fn ended(number: u32, passed: u64) -> Walk
 
 // How many siblings in a row end with a code, where `run` of them end with the code `last` before it. A row begins with a first child.
 fn next_run(last: u32, run: u32, code: u32) -> u32
+    requires { ⌜ ((run ≡ 0 → ⊥) → run ≡ suc (last % 8)) ⌝ }
     ensures { λ r. ⌜ r ≡ nextRun last run code ⌝ }
 {
     if code % 8 == 0 {
@@ -66,20 +67,16 @@ fn next_run(last: u32, run: u32, code: u32) -> u32
         return 0;
     }
     if code - 1 == last {
-        return code % 8 + 1;
+        return run + 1;
     }
     0
 }
 
-// A leaf more. The tests are those of document 01, in its order, on what is kept of the leaves before. A walk that has ended stays as it is.
+// A leaf more. The tests are those of document 01, in its order, on what is kept of the leaves before.
 pub fn step(depth: u32, walk: Walk, code: u32) -> Walk
-    requires { ⌜ (depth ≤ deepest) × ((l : List ℕ) × (i : ℕ) × Walked depth l i walk) ⌝ }
-    ensures { λ r. ⌜ ((l : List ℕ) (i : ℕ) → Walked depth l i walk → getD l i 0 ≡ code → Walked depth l (i + 1) r) ⌝ }
+    requires { ⌜ (depth ≤ deepest) × ((l : List ℕ) × (i : ℕ) × Faultless depth l i walk) ⌝ }
+    ensures { λ r. ⌜ ((l : List ℕ) (i : ℕ) → Faultless depth l i walk → getD l i 0 ≡ code → Walked depth l (i + 1) r) ⌝ }
 {
-    let number = walk.number;
-    if number != 0 {
-        return walk;
-    }
     let passed = walk.passed;
     if !is_proper(depth, code) {
         return ended(2, passed);

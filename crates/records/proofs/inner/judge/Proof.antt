@@ -1,16 +1,16 @@
 -- `records::inner::judge` meets its contract. The loop's invariant: `walk` has passed the first i leaves. Assumes nothing.
-use mathlib.Core.Path.{refl, subst}
+use mathlib.Core.Path.{_≡_, refl, subst}
 use Prim.Native.Nat.{ℕ, _+_, _-_, _≤_}
 use native.Mathlib.Omega.{arith}
 use lib.ListN.{length}
 use borrow.Author.Needs.{needs}
-use Rattle.records.specs.Walk.{Walked}
-use Rattle.records.proofs.Walks.{stays}
+use Rattle.records.specs.Walk.{Faultless, Walked}
+use Rattle.records.proofs.Walks.{going, stays}
 use Rattle.records.proofs.inner.judge.Statement.{statement}
 use Rattle.records.proofs.inner.judge.Tie as tie
 
 abbrev Inv-loop : tie.InvT-loop
-Inv-loop depth list walk₀ i₀ walk i = (i ≤ length list) × Walked depth list i walk
+Inv-loop depth list walk₀ i₀ walk i = (i ≤ length list) × (walk .number ≡ 0) × Faultless depth list i walk
 
 abbrev μ-loop : tie.MeasureT-loop
 μ-loop depth list walk₀ i₀ walk i = length list - i
@@ -27,7 +27,7 @@ module _ (c : tie.After-step Inv-loop μ-loop) where
   p = c .before .before
 
   more : Walked (s p .args .depth) (s p .args .list .now) (p .before .loop .i + 1) (c .step .result)
-  more = c .step .ensures (s p .args .list .now) (p .before .loop .i) (p .before .loop .inv .1) refl
+  more = c .step .ensures (s p .args .list .now) (p .before .loop .i) (p .before .loop .inv .2) refl
 
 pub judge-spec : {M : Type 1} → statement M
 judge-spec =
@@ -35,13 +35,13 @@ judge-spec =
     (tie.spec
     Inv-loop μ-loop
     (λ c κs. search needs)
-    (λ c. (search needs, c .begin .ensures _ _))
+    (λ c. (search needs, c .begin .ensures .0, c .begin .ensures .1 _ _))
     (λ c. search needs) (λ c. search needs)
-    (λ c κs. let t = c .before in (s t .pre, (s t .args .list .now, t .before .loop .i, t .before .loop .inv .1)))
+    (λ c κs. let t = c .before in (s t .pre, (s t .args .list .now, t .before .loop .i, t .before .loop .inv .2)))
     (λ c. stays (more (c .before)) (c .if1 .taken) (omega (arith, p (c .before) .loop-test .taken)))
     (λ c. search needs) (λ c. search needs)
-    (λ c. (omega (arith, p (c .before) .loop-test .taken), more (c .before)))
+    (λ c. let z : c .before .step .result .number ≡ 0 = search needs in (omega (arith, p (c .before) .loop-test .taken), z, more (c .before) .kept z))
     (λ c.
     let a = c .before .before .before .before .args in
     let o = c .before .loop in
-    subst (λ (n : ℕ). Walked (a .depth) (a .list .now) n (o .walk)) (omega (arith, c .loop-test .left, o .inv .0)) (o .inv .1)))
+    subst (λ (n : ℕ). Walked (a .depth) (a .list .now) n (o .walk)) (omega (arith, c .loop-test .left, o .inv .0)) (going (o .inv .1) (o .inv .2))))

@@ -17,8 +17,9 @@ returns-2 c =
 
 returns-3 : tie.Need-returns-3
 returns-3 c =
-    let s = c .before .before .before .args in
-    omega (arith, next-more (s .last) (s .run) (s .code) (c .before .before .if1 .left) (omega (arith, c .before .if2 .left)) (c .if3 .taken))
+    let u = c .before .before in
+    let s = u .before .args in
+    omega (arith, next-more (s .last) (s .run) (s .code) (u .if1 .left) (omega (arith, c .before .if2 .left)) (c .if3 .taken), u .before .pre (c .before .if2 .left), c .if3 .taken, u .if1 .left)
 
 returns-4 : tie.Need-returns-4
 returns-4 c =
@@ -26,4 +27,4 @@ returns-4 c =
     sym (next-none (s .last) (s .run) (s .code) (c .before .before .if1 .left) (rw (ne-eqb (s .code - 1) (s .last) (c .if3 .left)) (and-false (leb 1 (s .run)))))
 
 pub next-run-spec : {M : Type 1} → statement M
-next-run-spec = tie.close (tie.spec (λ c. let s = c .before .args in omega (arith, next-first (s .last) (s .run) (s .code) (c .if1 .taken), c .if1 .taken)) returns-2 (λ c. search needs) (λ c. search needs) returns-3 returns-4)
+next-run-spec = tie.close (tie.spec (λ c. let s = c .before .args in omega (arith, next-first (s .last) (s .run) (s .code) (c .if1 .taken), c .if1 .taken)) returns-2 (λ c. search needs) (λ c. omega (arith, c .before .before .before .pre (c .before .if2 .left))) returns-3 returns-4)
