@@ -18,39 +18,13 @@ module _ (c : tie.Else4) where
   is-code : plain (s .args .depth) (s .args .list .now) (s .args .i) (s .args .w) ≡ getD (s .args .list .now) (blockCodes * s .args .i + (s .args .w - 4)) 0
   is-code = plain-code (s .args .depth) (s .args .list .now) (s .args .i) (s .args .w) (omega arith) (s .pre .1)
 
-returns : tie.Need-returns
-unfolding plain
-returns c = rw (c .if1 .taken)
-
-returns-2 : tie.Need-returns-2
-unfolding plain
-returns-2 c = rw (c .if2 .taken) (c .before .before .pre .0 .number)
-
-returns-3 : tie.Need-returns-3
-unfolding plain
-returns-3 c = rw (c .if3 .taken)
-
-returns-4 : tie.Need-returns-4
-unfolding plain
-returns-4 c = rw (c .before .if4 .taken) (omega arith)
-
-returns-5 : tie.Need-returns-5
-unfolding plain
-returns-5 c = rw (c .before .if4 .taken) (omega arith)
-
 pub plain-word-spec : {M : Type 1} → statement M
+unfolding plain
 plain-word-spec =
     tie.close
     (tie.spec
-    (λ c. search needs)
-    returns
-    (λ c. search needs)
-    returns-2
-    returns-3
-    (λ c. search needs) (λ c. search needs) (λ c. search needs)
-    returns-4
-    (λ c. search needs)
-    returns-5
-    (λ c. search needs) (λ c. search needs) (λ c. search needs) (λ c. search needs)
-    (λ c. sym (is-code (c .before .before)))
+    (λ c. search needs) (λ c. rw (c .if1 .taken)) (λ c. search needs)
+    (λ c. rw (c .if2 .taken) (c .before .before .pre .0 .number))
+    (λ c. rw (c .if3 .taken)) (λ c. search needs) (λ c. search needs) (λ c. search needs) (λ c. rw (c .before .if4 .taken) (omega arith)) (λ c. search needs) (λ c. rw (c .before .if4 .taken) (omega arith)) (λ c. search needs)
+    (λ c. search needs) (λ c. search needs) (λ c. search needs) (λ c. sym (is-code (c .before .before)))
     (λ c. let e = c .before in sym (is-code e ∙ List·getD-eq-default (s e .args .list .now) 0 (c .if6 .left))))

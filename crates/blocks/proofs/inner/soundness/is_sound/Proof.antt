@@ -41,22 +41,11 @@ module _ (c : tie.After-unused-zero) where
   is-unused : c .unused-zero .result ≡ unusedZero (v (w k))
   is-unused = c .unused-zero .ensures ∙ ap (λ (n : ℕ). allFrom (λ j. eqb (v (w k) j) 0) (4 + n) (blockCodes - n)) (w k .word-at4 .ensures)
 
-returns-7 : tie.Need-returns-7
-returns-7 c =
-    let u = c .before .before in
-    let q = k u in
-    let a = s (w q) .args in
-    c .right-check .ensures
-    ∙ sound-last (v (w q)) (a .i) (a .n) (a .depth) (omega arith) (omega arith) (omega arith) (omega arith) (sym (is-count q) ∙ not-false _ (u .before .if5 .left))
-    (sym (is-unused u) ∙ not-false _ (c .before .if6 .left))
-
 pub is-sound-spec : {M : Type 1} → statement M
 is-sound-spec =
     tie.close
     (tie.spec
-    (λ c κs. search needs) (λ c. search needs) (λ c κs. search needs) (λ c. search needs) (λ c κs. search needs) (λ c κs. search needs)
-    (λ c. search needs)
-    (λ c. wrong-block (c .before) (λ p. omega arith))
+    (λ c κs. search needs) (λ c. search needs) (λ c κs. search needs) (λ c. search needs) (λ c κs. search needs) (λ c κs. search needs) (λ c. search needs) (λ c. wrong-block (c .before) (λ p. omega arith))
     (λ c. wrong-block (c .before .before) (λ p. omega arith))
     (λ c. wrong-block (c .before .before .before) (λ p. omega arith))
     (λ c. wrong-block (c .before .before .before .before) (λ p. omega arith))
@@ -68,4 +57,10 @@ is-sound-spec =
     (omega (arith, s (w q) .pre), omega (arith, right-most (a .n) (a .i) (v (w q) 3) (sym (is-count q) ∙ not-false _ (c .if5 .left)), w q .word-at4 .ensures)))
     (λ c. let q = c .before in wrong-block (w (k q)) (λ p. clash (p .zeros) (sym (is-unused q) ∙ not-true _ (c .if6 .taken))))
     (λ c κs. search needs)
-    returns-7)
+    (λ c.
+    let u = c .before .before in
+    let q = k u in
+    let a = s (w q) .args in
+    c .right-check .ensures
+    ∙ sound-last (v (w q)) (a .i) (a .n) (a .depth) (omega arith) (omega arith) (omega arith) (omega arith) (sym (is-count q) ∙ not-false _ (u .before .if5 .left))
+    (sym (is-unused u) ∙ not-false _ (c .before .if6 .left))))

@@ -7,25 +7,17 @@ use borrow.Author.Needs.{needs}
 use Rattle.blocks.proofs.inner.soundness.right_count.Statement.{statement}
 use Rattle.blocks.proofs.inner.soundness.right_count.Tie as tie
 
-returns : tie.Need-returns
-unfolding rightCount
-returns c = let a = c .before .args in rw (rightCount, lt-ltb (a .i + 1) (a .n) (c .if1 .taken))
-
-returns-2 : tie.Need-returns-2
-unfolding rightCount
-returns-2 c = let a = c .before .before .args in rw (rightCount, le-ltb (a .i + 1) (a .n) (c .before .if1 .left), lt-leb (a .k) 122 (c .if2 .taken))
-
-returns-3 : tie.Need-returns-3
-unfolding rightCount
-returns-3 c =
-    let a = c .before .before .before .args in
-    rw (rightCount, le-ltb (a .i + 1) (a .n) (c .before .before .if1 .left), le-leb (a .k) 122 (c .before .if2 .left), le-leb 1 (a .k) (c .if3 .taken))
-
-returns-4 : tie.Need-returns-4
-unfolding rightCount
-returns-4 c =
-    let a = c .before .before .before .args in
-    rw (rightCount, le-ltb (a .i + 1) (a .n) (c .before .before .if1 .left), le-leb (a .k) 122 (c .before .if2 .left), lt-leb 1 (a .k) (omega (arith, c .if3 .left)))
-
 pub right-count-spec : {M : Type 1} → statement M
-right-count-spec = tie.close (tie.spec (λ c. search needs) returns returns-2 returns-3 returns-4)
+unfolding rightCount
+right-count-spec =
+    tie.close
+    (tie.spec
+    (λ c. search needs)
+    (λ c. let a = c .before .args in rw (rightCount, lt-ltb (a .i + 1) (a .n) (c .if1 .taken)))
+    (λ c. let a = c .before .before .args in rw (rightCount, le-ltb (a .i + 1) (a .n) (c .before .if1 .left), lt-leb (a .k) 122 (c .if2 .taken)))
+    (λ c.
+    let a = c .before .before .before .args in
+    rw (rightCount, le-ltb (a .i + 1) (a .n) (c .before .before .if1 .left), le-leb (a .k) 122 (c .before .if2 .left), le-leb 1 (a .k) (c .if3 .taken)))
+    (λ c.
+    let a = c .before .before .before .args in
+    rw (rightCount, le-ltb (a .i + 1) (a .n) (c .before .before .if1 .left), le-leb (a .k) 122 (c .before .if2 .left), lt-leb 1 (a .k) (omega (arith, c .if3 .left)))))

@@ -7,19 +7,10 @@ use borrow.Author.Needs.{needs}
 use Rattle.blocks.proofs.inner.words.store_word.Statement.{statement}
 use Rattle.blocks.proofs.inner.words.store_word.Tie as tie
 
-returns : tie.Need-returns
-unfolding byteOf
-returns c = refl
-
 pub store-word-spec : {M : Type 1} → statement M
+unfolding byteOf
 store-word-spec =
     tie.close
     (tie.spec
-    (λ c. search needs) (λ c. search needs) (λ c. search needs) (λ c. search needs) (λ c. search needs) (λ c. search needs) (λ c. search needs)
-    (λ c. simp length-set (omega arith))
-    (λ c. search needs) (λ c. search needs)
-    (λ c. simp length-set (omega arith))
-    (λ c. search needs) (λ c. search needs)
-    (λ c. simp length-set (omega arith))
-    (λ c. search needs)
-    returns)
+    (λ c. search needs) (λ c. search needs) (λ c. search needs) (λ c. search needs) (λ c. search needs) (λ c. search needs) (λ c. search needs) (λ c. simp length-set (omega arith))
+    (λ c. search needs) (λ c. search needs) (λ c. simp length-set (omega arith)) (λ c. search needs) (λ c. search needs) (λ c. simp length-set (omega arith)) (λ c. search needs) (λ c. refl))

@@ -4,9 +4,6 @@ use Rattle.blocks.specs.Block.{word}
 use Rattle.blocks.proofs.inner.words.word_at.Statement.{statement}
 use Rattle.blocks.proofs.inner.words.word_at.Tie as tie
 
-returns : tie.Need-returns
-unfolding word
-returns c = c .four-bytes .ensures
-
 pub word-at-spec : {M : Type 1} → statement M
-word-at-spec = tie.close (tie.spec (λ c. search needs) (λ c. search needs) (λ c. search needs) (λ c κs. search needs) returns)
+unfolding word
+word-at-spec = tie.close (tie.spec (λ c. search needs) (λ c. search needs) (λ c. search needs) (λ c κs. search needs) (λ c. c .four-bytes .ensures))
