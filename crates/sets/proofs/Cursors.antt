@@ -1,8 +1,9 @@
 -- Laws of a cursor into a list: where it is set, what the list has there, and the step to the next leaf. Assumes nothing.
-use mathlib.Core.Path.{_≡_, refl, ap, _∙_, subst, subst₂}
+use mathlib.Core.Path.{_≡_, refl, ap, _∙_, subst}
 use mathlib.Core.List.{List, [], _∷_}
 use mathlib.Core.Bool.{true, false}
 use Prim.Native.Nat.{ℕ, suc, _+_, _^_, _<_, _≤_}
+use native.Mathlib.Numerals.{add-one}
 use native.Mathlib.Omega.{arith}
 use lib.ListN.{length, getD, drop, drop-of-length-le}
 use lib.Seq.{drop-cons}
@@ -20,10 +21,9 @@ behind-none o = record { root = omega arith; rest = λ w h. refl; ordered = o }
 -- ---- setting a cursor
 
 -- no leaf is left
-pub points-end : {D : ℕ} {l : List ℕ} {i v e : ℕ} → e ≡ 8 ^ D → length l ≤ i → Behind D l i v → Points D l (record { at = length l; from = e; to = e }) v
+pub points-end : {D : ℕ} {l : List ℕ} {i v e : ℕ} → e ≡ 8 ^ D → length l ≤ i → Behind D l i v → Points D l (record { at = i; from = e; to = e }) v
 unfolding Ordered black
 points-end {D} {l} {i} {v} {e} full h b = record {
-  within = omega arith;
   order = omega arith;
   some = λ k. absurd (omega arith);
   ahead = λ k. omega arith;
@@ -31,14 +31,11 @@ points-end {D} {l} {i} {v} {e} full h b = record {
   inside = λ w k m. absurd (omega arith);
   behind = record {
     root = omega arith;
-    rest = λ w k. white w (omega (arith, b .root)) ∙ ap (λ (m : List ℕ). black D m w) (none (suc (length l)) (omega arith));
-    ordered = subst (λ (m : List ℕ). Ordered D e m) (none (suc (length l)) (omega arith)) tt;
+    rest = λ w k. b .rest w (omega (arith, b .root));
+    ordered = rw (drop-of-length-le l h) tt;
   };
 }
   where
-    none : (j : ℕ) → length l ≤ j → [] ≡ drop j l
-    none j k = rw (drop-of-length-le l k)
-
     white : (w : ℕ) → v ≤ w → black D l w ≡ false
     white w k = b .rest w k ∙ ap (λ (m : List ℕ). black D m w) (drop-of-length-le l h)
 
@@ -54,10 +51,9 @@ module _ {D : ℕ} {l : List ℕ} {i v : ℕ} (h : i < length l) (b : Behind D l
   unfolding Ordered
   head-proper = head .0
 
-  pub points-at : {from to : ℕ} → from ≡ start D c → to ≡ end D c → Points D l (record { at = i; from = from; to = to }) v
+  pub points-at : {from to : ℕ} → from ≡ start D c → to ≡ end D c → Points D l (record { at = i + 1; from = from; to = to }) v
   unfolding Ordered
-  points-at {from} {to} e f = record {
-    within = omega arith;
+  points-at {from} {to} e f = rw add-one (record {
     order = omega arith;
     some = λ k. omega (arith, span-pos D c);
     ahead = λ k. omega (arith, head .1, span-pos D c);
@@ -68,7 +64,7 @@ module _ {D : ℕ} {l : List ℕ} {i v : ℕ} (h : i < length l) (b : Behind D l
       rest = λ w k. split w (omega (arith, head .1)) ∙ black-past D c _ w (after-cell D c w (omega arith));
       ordered = subst (λ (x : ℕ). Ordered D x (drop (suc i) l)) (omega arith) (head .2);
     };
-  }
+  })
     where
       split : (w : ℕ) → v ≤ w → black D l w ≡ black D (c ∷ drop (suc i) l) w
       split w k = b .rest w k ∙ ap (λ (m : List ℕ). black D m w) (drop-cons l i 0 h)
@@ -87,7 +83,6 @@ module _ {D : ℕ} {l : List ℕ} {c : Cursor} {v : ℕ} (p : Points D l c v) wh
   -- to a later voxel before the leaf's end
   pub points-later : {w : ℕ} → v ≤ w → (w < 8 ^ D → w < c .to) → Points D l c w
   points-later {w} h g = record {
-    within = p .within;
     order = p .order;
     some = p .some;
     ahead = g;
@@ -97,5 +92,5 @@ module _ {D : ℕ} {l : List ℕ} {c : Cursor} {v : ℕ} (p : Points D l c v) wh
   }
 
   -- to its end
-  pub behind-next : {w : ℕ} → w ≤ c .to → c .to ≤ w → Behind D l (c .at + 1) w
-  behind-next {w} h g = subst₂ (λ (i x : ℕ). Behind D l i x) (omega arith) (omega arith) (p .behind)
+  pub behind-next : {w : ℕ} → w ≤ c .to → c .to ≤ w → Behind D l (c .at) w
+  behind-next {w} h g = subst (λ (x : ℕ). Behind D l (c .at) x) (omega arith) (p .behind)

@@ -2,8 +2,8 @@
 use mathlib.Core.Path.{_≡_}
 use mathlib.Core.List.{List}
 use mathlib.Core.Bool.{Bool, true, false, not, _&&_, _||_}
-use Prim.Native.Nat.{ℕ, suc, _^_, _<_, _≤_}
-use lib.ListN.{length, drop}
+use Prim.Native.Nat.{ℕ, _^_, _<_, _≤_}
+use lib.ListN.{drop}
 use Rattle.records.specs.Record.{black, Ordered}
 use Rattle.sets.specs.declared.Op.{Op}
 use Rattle.sets.specs.declared.Op.the-variants.{Join, Intersect, Subtract}
@@ -28,13 +28,12 @@ pub record Behind (D : ℕ) (l : List ℕ) (i v : ℕ) : Type 0 where
 
 -- c is the first leaf of l that ends after voxel v: from v on, the list is white up to `from`, black up to `to`, and its further leaves after that
 pub record Points (D : ℕ) (l : List ℕ) (c : Cursor) (v : ℕ) : Type 0 where
-  pub within : c .at ≤ length l
   pub order : c .from ≤ c .to
   pub some : c .from < 8 ^ D → c .from < c .to
   pub ahead : v < 8 ^ D → v < c .to
   pub before : (w : ℕ) → v ≤ w → w < c .from → black D l w ≡ false
   pub inside : (w : ℕ) → c .from ≤ w → w < c .to → black D l w ≡ true
-  pub behind : Behind D l (suc (c .at)) (c .to)
+  pub behind : Behind D l (c .at) (c .to)
 
 -- from v up to `until`, which the leaf of c reaches, the list l is of one colour
 pub record Steady (D : ℕ) (l : List ℕ) (c : Cursor) (v : ℕ) (s : Side) : Type 0 where

@@ -19,7 +19,7 @@ ghost use Rattle.emit.specs.Inner.{Result};
 ghost use Rattle.sets.specs.Sets.{InResult};
 ghost use Rattle.sets.specs.Inner.{chosen, both, Behind, Points, Steady};
 
-// A leaf of a list: its index, its least voxel number and the one after its last. Past the last leaf both are the root's end.
+// A leaf of a list: the index after its own, its least voxel number and the one after its last. Past the last leaf both are the root's end.
 pub struct Cursor {
     pub at: usize,
     pub from: u32,
@@ -62,7 +62,7 @@ fn load(depth: u32, list: &[u32], i: usize) -> Cursor
     let full = pow8(depth);
     if list.len() <= i {
         return Cursor {
-            at: list.len(),
+            at: i,
             from: full,
             to: full,
         };
@@ -71,7 +71,7 @@ fn load(depth: u32, list: &[u32], i: usize) -> Cursor
     let w = width(depth, code);
     let from = code * w - full;
     Cursor {
-        at: i,
+        at: i + 1,
         from: from,
         to: from + w,
     }
@@ -85,7 +85,7 @@ fn pass(depth: u32, list: &[u32], c: Cursor, next: u32) -> Cursor
     if next < c.to {
         return c;
     }
-    load(depth, list, c.at + 1)
+    load(depth, list, c.at)
 }
 
 // What a list has from voxel v on.

@@ -42,5 +42,6 @@ load-spec =
     (λ c κs. let p = c .before .before .before .before .pre in (p .0, head-proper (c .before .if1 .left) (p .1 .1)))
     (λ c. omega (arith, numbers c))
     (λ c. omega (arith, numbers c))
+    (λ c. search needs)
     (λ c. omega (arith, numbers c))
     (λ c v b. points-at (c .before .before .if1 .left) b (omega (arith, numbers c)) (omega (arith, numbers c, c .width .ensures))))

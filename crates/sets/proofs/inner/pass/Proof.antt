@@ -1,6 +1,4 @@
 -- `sets::inner::pass` meets its contract: within the leaf, at its end. Assumes nothing.
-use Prim.Native.Nat.{_+_}
-use native.Mathlib.Omega.{arith}
 use Rattle.sets.specs.Inner.{Behind}
 use Rattle.sets.proofs.Cursors.{points-later, behind-next}
 use Rattle.sets.proofs.inner.pass.Statement.{statement}
@@ -11,7 +9,7 @@ module _ (c : tie.Else1) where
   start = c .before .before .before
 
   -- the leaf's end is reached
-  ended : Behind (start .args .depth) (start .args .list .now) (start .args .c .at + 1) (start .args .next)
+  ended : Behind (start .args .depth) (start .args .list .now) (start .args .c .at) (start .args .next)
   ended = behind-next (start .pre .2 .2) (start .pre .1) (c .if1 .left)
 
 pub pass-spec : {M : Type 1} → statement M
@@ -19,6 +17,5 @@ pass-spec =
     tie.close
     (tie.spec
     (λ c. let (v, h, p) = c .before .before .before .pre .2 in points-later p h (λ _. c .if1 .taken))
-    (λ c. omega (arith, start (c .before) .pre .2 .2 .within))
-    (λ c κs. (start (c .before) .pre .0, (start (c .before) .args .next, ended (c .before))))
-    (λ c. c .load .ensures _ (ended (c .before .before))))
+    (λ c κs. (start c .pre .0, (start c .args .next, ended c)))
+    (λ c. c .load .ensures _ (ended (c .before))))
