@@ -121,24 +121,24 @@ condensed-of D from l o h p all =
 -- ---- the faults
 
 -- the number of the first test that fails: whether the code is proper, whether the leaf is early, whether it completes eight siblings; 0 where none does
-abbrev pub numbered : Bool → Bool → Bool → ℕ
-numbered false e s = 2
-numbered true true s = 3
-numbered true false true = 4
-numbered true false false = 0
+abbrev pub faultOf : Bool → Bool → Bool → ℕ
+faultOf false e s = 2
+faultOf true true s = 3
+faultOf true false true = 4
+faultOf true false false = 0
 
-numbered-zero : (x y z : Bool) → numbered x y z ≡ 0 → (x ≡ true) × (y ≡ false) × (z ≡ false)
-numbered-zero false y z e = absurd (omega arith)
-numbered-zero true true z e = absurd (omega arith)
-numbered-zero true false true e = absurd (omega arith)
-numbered-zero true false false e = (refl, refl, refl)
+zero-fault : (x y z : Bool) → faultOf x y z ≡ 0 → (x ≡ true) × (y ≡ false) × (z ≡ false)
+zero-fault false y z e = absurd (omega arith)
+zero-fault true true z e = absurd (omega arith)
+zero-fault true false true e = absurd (omega arith)
+zero-fault true false false e = (refl, refl, refl)
 
 -- it is the fault's
-pub fault-numbered : (D : ℕ) (l : List ℕ) (i : ℕ) → fault D l i ≡ numbered (proper D (getD l i 0)) (early D l i) (leb 7 i && eightAt l (i - 7))
+pub fault-table : (D : ℕ) (l : List ℕ) (i : ℕ) → fault D l i ≡ faultOf (proper D (getD l i 0)) (early D l i) (leb 7 i && eightAt l (i - 7))
 unfolding fault
-fault-numbered D l i = table (proper D (getD l i 0)) (early D l i) (leb 7 i && eightAt l (i - 7))
+fault-table D l i = table (proper D (getD l i 0)) (early D l i) (leb 7 i && eightAt l (i - 7))
   where
-    table : (p e s : Bool) → elim p [ false ↦ 2 | true ↦ elim e [ true ↦ 3 | false ↦ elim s [ true ↦ 4 | false ↦ 0 ] ] ] ≡ numbered p e s
+    table : (p e s : Bool) → elim p [ false ↦ 2 | true ↦ elim e [ true ↦ 3 | false ↦ elim s [ true ↦ 4 | false ↦ 0 ] ] ] ≡ faultOf p e s
     table false e s = refl
     table true true s = refl
     table true false true = refl
@@ -146,7 +146,7 @@ fault-numbered D l i = table (proper D (getD l i 0)) (early D l i) (leb 7 i && e
 
 -- what an index without a fault says
 pub no-fault : (D : ℕ) (l : List ℕ) (i : ℕ) → fault D l i ≡ 0 → (proper D (getD l i 0) ≡ true) × (early D l i ≡ false) × ((leb 7 i && eightAt l (i - 7)) ≡ false)
-no-fault D l i e = numbered-zero _ _ _ (sym (fault-numbered D l i) ∙ e)
+no-fault D l i e = zero-fault _ _ _ (sym (fault-table D l i) ∙ e)
 
 -- the test for order at an index after the first
 pub not-early : (D : ℕ) (l : List ℕ) (i : ℕ) → early D l (suc i) ≡ ltb (start D (getD l (suc i) 0)) (end D (getD l i 0))
@@ -171,7 +171,7 @@ faultless-good D l h = record { ordered = order; condensed = condensed-of D 0 l 
 
 pub good-faultless : (D : ℕ) (l : List ℕ) → Good D l → (i : ℕ) → i < length l → fault D l i ≡ 0
 unfolding early
-good-faultless D l g i h = rw (fault-numbered D l i, member D 0 l (getD l i 0) (g .ordered) (member-at l i h) .0, turn i h, eight i h)
+good-faultless D l g i h = rw (fault-table D l i, member D 0 l (getD l i 0) (g .ordered) (member-at l i h) .0, turn i h, eight i h)
   where
     turn : (i : ℕ) → i < length l → early D l i ≡ false
     turn zero h = refl

@@ -20,7 +20,7 @@ use Rattle.records.specs.Inner.{volume}
 use Rattle.records.specs.Walk.{lastOf, pastOf, voxels, nextRun, runOf, Faultless, Walked}
 use Rattle.records.specs.declared.inner.Walk.{Walk}
 use Rattle.cells.proofs.Cells.{within, span-pos}
-use Rattle.records.proofs.Fault.{numbered, fault-numbered, not-early, faultless-good}
+use Rattle.records.proofs.Fault.{faultOf, fault-table, not-early, faultless-good}
 use Rattle.records.proofs.First.{good-passes}
 use Rattle.records.proofs.Rows.{eight-run}
 
@@ -31,8 +31,8 @@ unfolding pastOf early
 early-past D l zero = sym (le-ltb (start D (getD l 0 0)) 0 zero-le)
 early-past D l (suc i) = not-early D l i
 
-fault-is : (D : ℕ) (l : List ℕ) (i : ℕ) → fault D l i ≡ numbered (proper D (getD l i 0)) (ltb (start D (getD l i 0)) (pastOf D l i)) (eqb (runOf l (suc i)) 8)
-fault-is D l i = rw (fault-numbered D l i, early-past D l i, eight-run l i)
+fault-is : (D : ℕ) (l : List ℕ) (i : ℕ) → fault D l i ≡ faultOf (proper D (getD l i 0)) (ltb (start D (getD l i 0)) (pastOf D l i)) (eqb (runOf l (suc i)) 8)
+fault-is D l i = rw (fault-table D l i, early-past D l i, eight-run l i)
 
 -- ---- the walk's beginning and a step: c is the next code
 
@@ -53,7 +53,7 @@ module _ {D : ℕ} {l : List ℕ} {i : ℕ} {w : Walk} {c : ℕ} (k : Faultless 
   next-is = rw (k .is-last, k .is-run, e)
 
   -- the fault, by what is kept
-  by-kept : fault D l i ≡ numbered (proper D c) (ltb (start D c) (w .past)) (eqb (nextRun (w .last) (w .run) c) 8)
+  by-kept : fault D l i ≡ faultOf (proper D c) (ltb (start D c) (w .past)) (eqb (nextRun (w .last) (w .run) c) 8)
   by-kept = rw (fault-is D l i, next-is, e, k .is-past)
 
   pub improper : proper D c ≡ false → fault D l i ≡ 2

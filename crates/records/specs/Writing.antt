@@ -15,7 +15,7 @@ stands t o = t ++ drop (length t) o
 abbrev pub TooShort : ℕ → List ℕ → Test
 TooShort n o = refuses (answer 8 n 0) (length o < n)
 
--- A call that writes t to the buffer o leaves the answer and the buffer s.
+-- A call that writes t to the buffer o: number 8, or success with t at its front. s is the answer, and the buffer afterwards.
 abbrev pub WritesOf : List ℕ → List ℕ → Answer × List ℕ → Type 0
 WritesOf t o = Decided (keeping o) (TooShort (length t) o ∷ []) (λ s. s ≡ (given (length t), stands t o))
 
