@@ -19,7 +19,7 @@ ghost use Rattle.emit.specs.Inner.{Result};
 ghost use Rattle.sets.specs.Sets.{InResult};
 ghost use Rattle.sets.specs.Inner.{chosen, both, Behind, Points, Steady};
 
-// A leaf of a list: the index after its own, its least voxel number and the one after its last. Past the last leaf both are the root's end.
+// A leaf of a list: the index where the list goes on after it, its least voxel number and the one after its last. Past the last leaf both are the root's end.
 pub struct Cursor {
     pub at: usize,
     pub from: u32,
