@@ -4,5 +4,3 @@ pub mod Acceptance
 pub mod Back
 -- what follows of the call
 pub mod MoveLaws
--- the tests of a move as they stood before
-pub mod Former
