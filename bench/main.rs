@@ -17,29 +17,23 @@ fn kept(answer: Answer) {
     unsafe { std::ptr::read_volatile(&answer) };
 }
 
-/// The median time of a job, in microseconds.
-fn median(runs: usize, mut job: impl FnMut()) -> f64 {
-    job();
-    let mut times: Vec<f64> = (0..runs)
-        .map(|_| {
-            let begun = Instant::now();
-            job();
-            begun.elapsed().as_secs_f64() * 1e6
-        })
-        .collect();
-    times.sort_by(|a, b| a.total_cmp(b));
-    times[runs / 2]
+/// The time of one run of a job, in microseconds.
+fn time(job: &mut impl FnMut() -> Answer) -> f64 {
+    let begun = Instant::now();
+    kept(job());
+    begun.elapsed().as_secs_f64() * 1e6
 }
 
-/// One row: both do the job, agree, and are timed by turns.
+fn median(mut times: Vec<f64>) -> f64 {
+    times.sort_by(|a, b| a.total_cmp(b));
+    times[times.len() / 2]
+}
+
+/// One row: both do the job, agree, and are timed by turns, so that a machine that changes its pace changes it for both.
 fn row(shape: &Shape, job: &str, runs: usize, mut ours: impl FnMut() -> Answer, mut plain: impl FnMut() -> Answer) {
     assert_eq!(ours(), plain(), "{} {job}", shape.name);
-    let a = median(runs, || {
-        kept(ours());
-    });
-    let b = median(runs, || {
-        kept(plain());
-    });
+    let (a, b): (Vec<f64>, Vec<f64>) = (0..runs).map(|_| (time(&mut ours), time(&mut plain))).unzip();
+    let (a, b) = (median(a), median(b));
     println!("| {} | {job} | {a:.0} | {b:.0} | {:.2} |", shape.name, a / b);
 }
 
