@@ -14,9 +14,9 @@ pub use reader::read;
 pub use writer::write;
 
 // The bytes of a block, and the codes that it can hold.
-const BLOCK_BYTES: usize = 512;
+pub const BLOCK_BYTES: usize = 512;
 
-const BLOCK_CODES: usize = 122;
+pub const BLOCK_CODES: usize = 122;
 // The word of its first code, and those of the check.
 const FIRST_CODE: usize = 4;
 

@@ -19,7 +19,7 @@ use Rattle.blocks.specs.Inner.{Sound}
 use Rattle.blocks.specs.declared.Reading.{Reading}
 use Rattle.blocks.proofs.Sound.{all-blocks, codes-most, one-unsound, not-unsound}
 use Rattle.text.specs.Text.{pathLines, textOf, TextOf, refusedText, RefusedOf}
-use Rattle.text.specs.Inner.{headLine}
+use Rattle.text.specs.Inner.{longestHead, longestPath, longestRefusal, headLine}
 use Rattle.text.proofs.CallLaws.{one-text, one-refused}
 use Rattle.text.proofs.Digits.{paths-length, head-length, refused-length}
 use Rattle.listing.specs.Listing.{longest, mostCodes, refusedLine, Printed, Page}
@@ -29,7 +29,7 @@ use Rattle.listing.specs.Listing.{longest, mostCodes, refusedLine, Print
 pub few-codes : (b : List ℕ) → Sound b → length b ≤ longest → length (codes b) ≤ mostCodes
 few-codes b s h = omega (arith, codes-most b s, all-blocks b s)
 
-pub text-length : (D : ℕ) (l : List ℕ) → D ≤ deepest → length (textOf D l) ≤ 83 + 12 * length l
+pub text-length : (D : ℕ) (l : List ℕ) → D ≤ deepest → length (textOf D l) ≤ longestHead + longestPath * length l
 unfolding textOf
 text-length D l h =
     let v = count (black D l) (8 ^ D) in
@@ -49,7 +49,7 @@ refused-printed b o r o' (inr (p, inr (q, inr (_, e)))) some h room = absurd (so
 pub text-left : (D : ℕ) (l o : List ℕ) (r : Answer) (o' : List ℕ) → TextOf D l o r o' → D ≤ deepest → Good D l → length (textOf D l) ≤ length o → _≡_ {A = Answer × List ℕ} (r, o') (given (length (textOf D l)), stands (textOf D l) o)
 text-left D l o r o' w h g room = one-text D l o (r, o') (_, _) w (list-fitting (textOf D l) o D l h g room)
 
-pub refused-left : (n p : ℕ) (o : List ℕ) (r : Answer) (o' : List ℕ) → RefusedOf n p o r o' → 50 ≤ length o → _≡_ {A = Answer × List ℕ} (r, o') (given (length (refusedText n p)), stands (refusedText n p) o)
+pub refused-left : (n p : ℕ) (o : List ℕ) (r : Answer) (o' : List ℕ) → RefusedOf n p o r o' → longestRefusal ≤ length o → _≡_ {A = Answer × List ℕ} (r, o') (given (length (refusedText n p)), stands (refusedText n p) o)
 refused-left n p o r o' w room = one-refused n p o (r, o') (_, _) w (writes-fitting (refusedText n p) o (omega (arith, refused-length n p)))
 
 -- the page of the text t

@@ -7,20 +7,23 @@ use Rattle.cells.specs.Answer.{Decided}
 use Rattle.cells.specs.declared.Answer.{Answer}
 use Rattle.records.specs.Fault.{Faulty}
 use Rattle.records.specs.Writing.{stands}
-use Rattle.blocks.specs.Block.{depthOf, codes}
+use Rattle.blocks.specs.Block.{blockBytes, blockCodes, depthOf, codes}
 use Rattle.blocks.specs.Calls.{Unsound}
 use Rattle.text.specs.Text.{textOf, refusedText}
+use Rattle.text.specs.Inner.{longestHead, longestPath}
 
--- how many bytes are read at most: 128 blocks
+-- how many blocks are read at most, their bytes, the codes that they hold at most, and the bytes of the text of those
+abbrev pub mostBlocks : ℕ
+mostBlocks = 128
+
 abbrev pub longest : ℕ
-longest = 128 * 512
+longest = mostBlocks * blockBytes
 
--- the codes that they hold at most, and the bytes of their text: the first line has at most 83, a path at most 12
 abbrev pub mostCodes : ℕ
-mostCodes = 128 * 122
+mostCodes = mostBlocks * blockCodes
 
 abbrev pub longestText : ℕ
-longestText = 83 + 12 * mostCodes
+longestText = longestHead + longestPath * mostCodes
 
 -- a refusal's line
 abbrev pub refusedLine : Answer → List ℕ

@@ -1,20 +1,26 @@
 // Reads one stored file on standard input, at most 65,536 bytes, and prints its listing, `refused N P` for a bad file, or `too long`.
 // An input that cannot be read on ends there; where the output is closed, the program ends.
+use blocks::BLOCK_BYTES;
+use blocks::BLOCK_CODES;
 use blocks::read;
 use libc::STDIN_FILENO;
 use libc::STDOUT_FILENO;
+use text::LONGEST_HEAD;
+use text::LONGEST_PATH;
 use text::list_text;
 use text::refused_text;
 ghost use Prim.Native.Nat.{_≤_};
 ghost use lib.ListN.{length};
 ghost use Rattle.listing.specs.Listing.{longest, mostCodes, longestText, Page};
 
-// The bytes of the longest file: 128 blocks.
-const LONGEST: usize = 128 * 512;
-// The codes that they hold at most, 122 a block.
-const MOST_CODES: usize = 128 * 122;
-// The bytes of the longest text: the first line has at most 83, a path at most 12.
-const LONGEST_TEXT: usize = 83 + 12 * MOST_CODES;
+// The most blocks of a file, their bytes, the codes that they hold at most, and the bytes of the text of those.
+const MOST_BLOCKS: usize = 128;
+
+const LONGEST: usize = MOST_BLOCKS * BLOCK_BYTES;
+
+const MOST_CODES: usize = MOST_BLOCKS * BLOCK_CODES;
+
+const LONGEST_TEXT: usize = LONGEST_HEAD + LONGEST_PATH * MOST_CODES;
 
 // The text of a file at the front of `text`, and its length.
 fn page(bytes: &[u8], codes: &mut [u32], text: &mut [u8]) -> usize

@@ -14,8 +14,7 @@ use Rattle.cells.specs.Cell.{level, proper, index}
 use Rattle.cells.proofs.Power.{pow8-pos, pow8-suc}
 use Rattle.cells.proofs.Cells.{level-le, proper-bounds}
 use Rattle.text.specs.Text.{digits, labels, pathLines, refusedText}
-use Rattle.text.specs.Inner.{pathLine}
-use Rattle.text.specs.Inner.{Put, Labelled, headLine}
+use Rattle.text.specs.Inner.{Put, longestHead, longestPath, longestRefusal, Labelled, headLine, pathLine}
 use Rattle.text.proofs.Puts.{put-append, put-as}
 
 -- ---- a number in decimal
@@ -70,6 +69,11 @@ put-label c h (suc k) i l p q =
     let e : c % 8 ≡ i % 8 = omega (arith, l .0, pow8-suc k) in
     put-append (p k (i / 8) (labelled-parent c k i l)) (put-as (ap (λ (d : ℕ). (48 + d) ∷ []) e) q)
 
+-- one label more
+pub label-near : (c f at n : ℕ) → 8 ≤ c → c < 8 ^ suc f → ((g : ℕ) → c / 8 < 8 ^ suc g → n ≤ at + g) → n + 1 ≤ at + f
+label-near c zero at n h b near = absurd (omega arith)
+label-near c (suc f) at n h b near = omega (arith, near f (omega (arith, pow8-suc (suc f))))
+
 -- the labels of a proper code
 pub proper-labelled : (D c : ℕ) → proper D c ≡ true → Labelled c (level D c) (index D c)
 unfolding index
@@ -77,10 +81,10 @@ proper-labelled D c p = let b = proper-bounds D c p in (omega arith, omega arith
 
 -- ---- paths
 
-pub path-length : (D c : ℕ) → D ≤ deepest → length (pathLine D c) ≤ 12
+pub path-length : (D c : ℕ) → D ≤ deepest → length (pathLine D c) ≤ longestPath
 path-length D c h = omega (arith, length-append (labels (level D c) (index D c)) (10 ∷ []), labels-length (level D c) (index D c), level-le D c)
 
-pub paths-length : (D : ℕ) (l : List ℕ) → D ≤ deepest → length (pathLines D l) ≤ 12 * length l
+pub paths-length : (D : ℕ) (l : List ℕ) → D ≤ deepest → length (pathLines D l) ≤ longestPath * length l
 unfolding pathLines
 paths-length D [] h = omega arith
 paths-length D (c ∷ l) h = omega (arith, length-append (pathLine D c) (pathLines D l), path-length D c h, paths-length D l h)
@@ -102,9 +106,9 @@ paths-more D l i h =
 
 -- ---- whole texts
 
-pub head-length : (D n v : ℕ) → length (headLine D n v) ≤ 83
+pub head-length : (D n v : ℕ) → length (headLine D n v) ≤ longestHead
 head-length D n v = simp length-append (omega (arith, digits-length 10 19 D, digits-length 10 19 n, digits-length 10 19 v))
 
-pub refused-length : (n p : ℕ) → length (refusedText n p) ≤ 50
+pub refused-length : (n p : ℕ) → length (refusedText n p) ≤ longestRefusal
 unfolding refusedText
 refused-length n p = simp length-append (omega (arith, digits-length 10 19 n, digits-length 10 19 p))

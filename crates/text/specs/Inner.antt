@@ -1,7 +1,7 @@
 -- INNER: for the contracts of the functions that put text into a buffer. Definitions only.
 use mathlib.Core.Path.{_≡_}
 use mathlib.Core.List.{List, [], _∷_, _++_}
-use Prim.Native.Nat.{ℕ, _+_, _^_, _<_}
+use Prim.Native.Nat.{ℕ, _+_, _*_, _^_, _<_}
 use lib.ListN.{length}
 use lib.Seq.{sets}
 use Rattle.cells.specs.Cell.{level, index}
@@ -11,6 +11,23 @@ use Rattle.text.specs.Text.{labels, pathLines, field, depthWord, leavesW
 pub record Put (o : List ℕ) (at : ℕ) (l after : List ℕ) (r : ℕ) : Type 0 where
   pub bytes : after ≡ sets o at l
   pub place : r ≡ at + length l
+
+-- the bytes of each part at most: a number of 64 bits in decimal; the labels of a code of 32 bits; "depth ", " leaves " and " volume ", a number after each, and
+-- the line's end; r, the labels and the line's end; "refused " and " ", a number after each, and the line's end
+abbrev pub longestNumber : ℕ
+longestNumber = 20
+
+abbrev pub longestLabels : ℕ
+longestLabels = 10
+
+abbrev pub longestHead : ℕ
+longestHead = 6 + 8 + 8 + 3 * longestNumber + 1
+
+abbrev pub longestPath : ℕ
+longestPath = 1 + longestLabels + 1
+
+abbrev pub longestRefusal : ℕ
+longestRefusal = 8 + 1 + 2 * longestNumber + 1
 
 -- the code c is r followed by k labels, i in base 8
 abbrev pub Labelled : ℕ → ℕ → ℕ → Type 0

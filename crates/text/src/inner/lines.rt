@@ -11,13 +11,13 @@ ghost use Rattle.cells.specs.Answer.{deepest};
 ghost use Rattle.cells.specs.Cell.{proper};
 ghost use Rattle.records.specs.Record.{Ordered};
 ghost use Rattle.text.specs.Text.{pathLines, field, refusedText};
-ghost use Rattle.text.specs.Inner.{Put, headLine, pathLine, listing};
+ghost use Rattle.text.specs.Inner.{Put, longestNumber, longestHead, longestPath, headLine, pathLine, listing};
 
 // The path of a code.
 fn put_path(code: u32, bytes: &mut [u8], at: usize) -> usize
-    requires { ⌜ ((D : ℕ) × (D ≤ deepest) × (proper D code ≡ true) × (at + 12 < 2 ^ 64)) ⌝ }
+    requires { ⌜ at + longestPath < 2 ^ 64 ⌝ }
     ensures text { λ r. ⌜ ((D : ℕ) → proper D code ≡ true → Put (now (bytes .entry)) at (pathLine D code) (now (bytes .exit)) r) ⌝ }
-    ensures near { λ r. ⌜ r ≤ at + 12 ⌝ }
+    ensures near { λ r. ⌜ r ≤ at + longestPath ⌝ }
 {
     let labels = put(114, bytes, at);
     let end = put_labels(code, bytes, labels);
@@ -26,7 +26,7 @@ fn put_path(code: u32, bytes: &mut [u8], at: usize) -> usize
 
 // The paths of a list, one a line.
 fn put_paths(list: &[u32], bytes: &mut [u8], at: usize) -> usize
-    requires { ⌜ ((D : ℕ) × (D ≤ deepest) × Ordered D 0 (now list) × (at + 12 * length (now list) < 2 ^ 64)) ⌝ }
+    requires { ⌜ at + longestPath * length (now list) < 2 ^ 64 ⌝ }
     ensures { λ r. ⌜ ((D : ℕ) → Ordered D 0 (now (list .entry)) → Put (now (bytes .entry)) at (pathLines D (now (list .entry))) (now (bytes .exit)) r) ⌝ }
 {
     let mut place = at;
@@ -40,9 +40,9 @@ fn put_paths(list: &[u32], bytes: &mut [u8], at: usize) -> usize
 
 // A word and a number.
 fn put_field(word: &[u8], n: u64, bytes: &mut [u8], at: usize) -> usize
-    requires { ⌜ at + length (now word) + 20 < 2 ^ 64 ⌝ }
+    requires { ⌜ at + length (now word) + longestNumber < 2 ^ 64 ⌝ }
     ensures text { λ r. ⌜ Put (now (bytes .entry)) at (field (now (word .entry)) n) (now (bytes .exit)) r ⌝ }
-    ensures near { λ r. ⌜ r ≤ at + length (now (word .entry)) + 20 ⌝ }
+    ensures near { λ r. ⌜ r ≤ at + length (now (word .entry)) + longestNumber ⌝ }
 {
     let place = put_word(word, bytes, at);
     put_decimal(n, bytes, place)
@@ -51,7 +51,7 @@ fn put_field(word: &[u8], n: u64, bytes: &mut [u8], at: usize) -> usize
 // The first line: depth, leaf count and black voxels.
 fn put_head(depth: u32, leaves: u64, voxels: u64, bytes: &mut [u8]) -> usize
     ensures text { λ r. ⌜ Put (now (bytes .entry)) 0 (headLine depth leaves voxels) (now (bytes .exit)) r ⌝ }
-    ensures near { λ r. ⌜ r ≤ 83 ⌝ }
+    ensures near { λ r. ⌜ r ≤ longestHead ⌝ }
 {
     let a = put_field(b"depth ", depth as u64, bytes, 0);
     let b = put_field(b" leaves ", leaves, bytes, a);

@@ -1,9 +1,9 @@
 // INNER: the parts of a line: a byte, a word, a number, labels.
 ghost use mathlib.Core.List.{[], _∷_};
-ghost use Prim.Native.Nat.{ℕ, suc, _+_, _<_, _^_};
+ghost use Prim.Native.Nat.{ℕ, suc, _+_, _≤_, _<_, _^_};
 ghost use lib.ListN.{length};
 ghost use Rattle.text.specs.Text.{digits, labels};
-ghost use Rattle.text.specs.Inner.{Put, Labelled};
+ghost use Rattle.text.specs.Inner.{Put, longestNumber, longestLabels, Labelled};
 
 // A byte; past the end it is counted alone.
 pub fn put(byte: u8, bytes: &mut [u8], at: usize) -> usize
@@ -32,7 +32,7 @@ pub fn put_word(word: &[u8], bytes: &mut [u8], at: usize) -> usize
 
 // A number in decimal.
 pub fn put_decimal(n: u64, bytes: &mut [u8], at: usize) -> usize
-    requires { ⌜ at + 20 < 2 ^ 64 ⌝ }
+    requires { ⌜ at + longestNumber < 2 ^ 64 ⌝ }
     ensures { λ r. ⌜ ((f : ℕ) → n < 10 ^ suc f → Put (now (bytes .entry)) at (digits 10 f n) (now (bytes .exit)) r) ⌝ }
 {
     if n < 10 {
@@ -44,8 +44,9 @@ pub fn put_decimal(n: u64, bytes: &mut [u8], at: usize) -> usize
 
 // The labels of a code, outermost first.
 pub fn put_labels(code: u32, bytes: &mut [u8], at: usize) -> usize
-    requires { ⌜ ((k : ℕ) × (i : ℕ) × Labelled code k i × (at + k < 2 ^ 64)) ⌝ }
-    ensures { λ r. ⌜ ((k i : ℕ) → Labelled code k i → Put (now (bytes .entry)) at (labels k i) (now (bytes .exit)) r) ⌝ }
+    requires { ⌜ at + longestLabels < 2 ^ 64 ⌝ }
+    ensures text { λ r. ⌜ ((k i : ℕ) → Labelled code k i → Put (now (bytes .entry)) at (labels k i) (now (bytes .exit)) r) ⌝ }
+    ensures near { λ r. ⌜ ((f : ℕ) → code < 8 ^ suc f → r ≤ at + f) ⌝ }
 {
     if code < 8 {
         return at;

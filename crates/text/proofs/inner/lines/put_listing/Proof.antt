@@ -12,7 +12,7 @@ put-paths-requires c κs =
     let head = c .before .before .before in
     let s = head .before .before .before .before in
     let (shallow, ordered, few) = s .pre in
-    (s .args .depth, shallow, ordered, omega (arith, head .put-head .ensures .1, few, pow8-small (s .args .depth) shallow))
+    omega (arith, head .put-head .ensures .1, few, pow8-small (s .args .depth) shallow)
 
 returns : tie.Need-returns
 unfolding listing

@@ -1,5 +1,5 @@
 -- `text::inner::lines::put_paths` meets its contract. The loop's invariant: the paths of the first i leaves are put. Assumes nothing.
-use mathlib.Core.Path.{_≡_, sym, ap, _∙_}
+use mathlib.Core.Path.{_≡_, refl, sym, ap, _∙_}
 use mathlib.Core.Bool.{true}
 use Prim.Native.Nat.{ℕ, _+_, _-_, _*_, _≤_}
 use native.Mathlib.Numerals.{add-one}
@@ -12,8 +12,8 @@ use Rattle.records.specs.Record.{Ordered}
 use Rattle.records.proofs.Fault.{member-at}
 use Rattle.records.proofs.Leaves.{member}
 use Rattle.text.specs.Text.{pathLines}
-use Rattle.text.specs.Inner.{Put}
-use Rattle.text.proofs.Puts.{put-none, put-append, put-length, put-as}
+use Rattle.text.specs.Inner.{Put, longestPath}
+use Rattle.text.proofs.Puts.{put-none, put-append, put-as}
 use Rattle.text.proofs.Digits.{paths-more}
 use Rattle.text.proofs.inner.lines.put_paths.Statement.{statement}
 use Rattle.text.proofs.inner.lines.put_paths.Tie as tie
@@ -21,14 +21,14 @@ use Rattle.text.proofs.inner.lines.put_paths.Tie as tie
 -- the first i paths are put, at any depth at which the codes are proper
 abbrev Inv-loop : tie.InvT-loop
 Inv-loop list bytes₀ at place₀ i₀ bytes place i =
-    (i ≤ length list) × (place ≤ at + 12 * i) × ((D : ℕ) → Ordered D 0 list → Put bytes₀ at (pathLines D (take i list)) bytes place)
+    (i ≤ length list) × (place ≤ at + longestPath * i) × (length bytes ≡ length bytes₀) × ((D : ℕ) → Ordered D 0 list → Put bytes₀ at (pathLines D (take i list)) bytes place)
 
 abbrev μ-loop : tie.MeasureT-loop
 μ-loop list bytes₀ at place₀ i₀ bytes place i = length list - i
 
 loop-holds : tie.Need-loop-holds Inv-loop μ-loop
 unfolding pathLines
-loop-holds c = (search needs, search needs, λ D o. put-none)
+loop-holds c = (search needs, search needs, refl, λ D o. put-none)
 
 -- ---- inside the loop
 
@@ -47,9 +47,10 @@ loop-again c =
     let n = i .before .loop .i in (
       search needs,
       omega (arith, p .put-path .ensures .1),
+      p .put-path .kept .1 .0 ∙ i .before .loop .inv .2,
       λ D o.
           put-as (sym (paths-more D l n (i .loop-test .taken)) ∙ ap (λ (m : ℕ). pathLines D (take m l)) (sym (add-one n)))
-          (put-append (i .before .loop .inv .2 D o) (p .put-path .ensures .0 D (proper-code i D o))),
+          (put-append (i .before .loop .inv .3 D o) (p .put-path .ensures .0 D (proper-code i D o))),
     )
 
 pub put-paths-spec : {M : Type 1} → statement M
@@ -59,8 +60,8 @@ put-paths-spec =
     Inv-loop μ-loop
     loop-holds
     (λ c. search needs) (λ c. search needs)
-    (λ c κs. let i = c .before .before in let (D, shallow, o, room) = s i .pre in (D, shallow, proper-code i D o, omega (arith, i .loop-test .taken)))
+    (λ c κs. let i = c .before .before in omega (arith, i .before .loop .inv .1, i .loop-test .taken, s i .pre))
     (λ c. search needs) (λ c. search needs)
     loop-again
-    (λ c. let h = c .before in let (D, shallow, o, room) = h .before .before .before .pre in put-length (h .loop .inv .2 D o))
-    (λ c. λ D o. let h = c .before in put-as (ap (pathLines D) (take-all (h .loop .i) (h .before .before .before .args .list .now) (c .loop-test .left))) (h .loop .inv .2 D o)))
+    (λ c. c .before .loop .inv .2)
+    (λ c. λ D o. let h = c .before in put-as (ap (pathLines D) (take-all (h .loop .i) (h .before .before .before .args .list .now) (c .loop-test .left))) (h .loop .inv .3 D o)))

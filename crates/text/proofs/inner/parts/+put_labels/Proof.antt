@@ -1,13 +1,12 @@
 -- `text::inner::parts::put_labels` meets its contract. The recursion follows `labels`; the measure is the code. Assumes nothing.
 use mathlib.Core.Path.{sym}
-use Prim.Native.Nat.{ℕ, zero, suc, _/_, _+_, _^_, _≤_, _<_}
+use Prim.Native.Nat.{ℕ, _<_}
 use native.Mathlib.Omega.{arith}
 use borrow.Author.Needs.{needs}
 use borrow.Fn.Kinds.{In}
 use borrow.Fn.PlainCycle.{Measures, is, falls, and}
-use Rattle.text.specs.Inner.{Labelled}
 use Rattle.text.proofs.Puts.{put-none, put-as}
-use Rattle.text.proofs.Digits.{labels-length, labelled-parent, labels-none, put-label}
+use Rattle.text.proofs.Digits.{labels-none, put-label, label-near}
 use Rattle.text.proofs.inner.parts.put_labels.Reads as put-labels
 use Rattle.text.proofs.inner.parts.put_labels.Kinds as put-labels-kinds
 use Rattle.text.proofs.inner.parts.+put_labels.Lts-put_labels as lts
@@ -27,39 +26,26 @@ below t = and 1 put-labels-kinds.ps (falls 1 put-labels-kinds.ps _<_ μ t) put-l
 abbrev calls : ℕ → lts.Claims
 calls t = (below t, put-labels.Post, put-reads.Asked, put-reads.Learnt)
 
--- there is a label before the last
-shorter : (c at : ℕ) → 8 ≤ c → (k i : ℕ) → Labelled c k i → at + k < 2 ^ 64 → (j : ℕ) × (m : ℕ) × Labelled (c / 8) j m × (at + suc j < 2 ^ 64)
-shorter c at h zero i (e, b) room = absurd (omega arith)
-shorter c at h (suc k) i l room = (k, i / 8, labelled-parent c k i l, room)
-
 returns : (t : ℕ) → lts.Need-returns (calls t) (here t) put-labels.Post
 returns t c =
-    λ k i l.
-    put-as (sym (labels-none (c .before .before .args .code) (c .if1 .taken) k i l)) put-none
+    (λ k i l. put-as (sym (labels-none (c .before .before .args .code) (c .if1 .taken) k i l)) put-none, λ f h. omega arith)
 
-put-labels-requires : (t : ℕ) → lts.Need-put-labels-requires (calls t) (here t) put-labels.Post
-put-labels-requires t c κs =
-    let s = c .before .before .before in
-    let (k, i, l, room) = s .pre .1 in
-    let (j, m, p, more) = shorter (s .args .code) (s .args .at) (c .before .if1 .left) k i l room in
-    (omega (arith, s .pre .0, c .before .if1 .left), (j, m, p, omega arith))
-
+-- the code without its last label has one label less
 put-requires : (t : ℕ) → lts.Need-put-requires (calls t) (here t) put-labels.Post
 put-requires t c κs =
     let d = c .before .before .before in
-    let e = d .before .before in
-    let s = e .before .before in
-    let (k, i, l, room) = s .pre .1 in
-    let (j, m, p, more) = shorter (s .args .code) (s .args .at) (e .if1 .left) k i l room in
-    omega (arith, d .put-labels .ensures j m p .place, labels-length j m)
+    let s = d .before .before .before .before in
+    omega (arith, d .put-labels .ensures .1 9 (omega (arith, s .fits .code)), s .pre .1)
 
 returns-2 : (t : ℕ) → lts.Need-returns-2 (calls t) (here t) put-labels.Post
 returns-2 t c =
-    λ k i l.
     let q = c .before .before in
     let d = q .before .before .before .before in
     let e = d .before .before in
-    put-label (e .before .before .args .code) (e .if1 .left) k i l (d .put-labels .ensures) (q .put .ensures)
+    let s = e .before .before in (
+      λ k i l. put-label (s .args .code) (e .if1 .left) k i l (d .put-labels .ensures .0) (q .put .ensures),
+      λ f h. omega (arith, q .put .ensures .place, label-near (s .args .code) f (s .args .at) (d .put-labels .result) (e .if1 .left) h (d .put-labels .ensures .1)),
+    )
 
 pub +put-labels-spec : {M : Type 1} → statement M
 +put-labels-spec =
@@ -70,7 +56,7 @@ pub +put-labels-spec : {M : Type 1} → statement M
     (here t)
     put-labels.Post
     (returns t)
-    (put-labels-requires t)
+    (λ c κs. let s = c .before .before .before in (omega (arith, s .pre .0, c .before .if1 .left), s .pre .1))
     (λ c. omega arith)
     (λ c. omega arith)
     (put-requires t)
