@@ -9,16 +9,21 @@ ghost use Rattle.cells.specs.Neighbour.{NeighbourOf};
 ghost use Rattle.cells.specs.Place.{axes};
 ghost use Rattle.cab.specs.Packed.{packed, Packed};
 
+// 2^32, by which the number stands before the place, and the greatest place that fits behind it.
+const PLACES: u64 = 4294967296;
+
+const LAST_PLACE: u64 = PLACES - 1;
+
 // An answer as one number.
 fn pack(a: Answer) -> u64
     ensures { λ r. ⌜ r ≡ packed a ⌝ }
 {
     let number = a.number as u64;
     let place = a.place;
-    if 4294967295 < place {
-        return number * 4294967296 + 4294967295;
+    if LAST_PLACE < place {
+        return number * PLACES + LAST_PLACE;
     }
-    number * 4294967296 + place
+    number * PLACES + place
 }
 
 // The neighbour address.

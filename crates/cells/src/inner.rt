@@ -7,6 +7,9 @@ ghost use Rattle.cells.specs.Answer.{answer, given, deepest};
 ghost use Rattle.cells.specs.Cell.{level, proper, span, start};
 ghost use Rattle.cells.specs.Place.{along, number, corner};
 
+// The place of a word's highest bit.
+const TOP_BIT: u32 = 31;
+
 // Number, place and list of a refusal.
 pub fn refusal(number: u32, place: u64, list: u32) -> Answer
     ensures { λ r. ⌜ r ≡ answer number place list ⌝ }
@@ -51,10 +54,10 @@ pub fn is_proper(depth: u32, code: u32) -> bool
     ensures { λ r. ⌜ r ≡ proper depth code ⌝ }
 {
     let zeros = u32::leading_zeros(code);
-    if 31 < zeros {
+    if TOP_BIT < zeros {
         return false;
     }
-    let top = 31 - zeros;
+    let top = TOP_BIT - zeros;
     if top % 3 != 0 {
         return false;
     }
@@ -66,15 +69,15 @@ pub fn level_of(depth: u32, code: u32) -> u32
     requires { ⌜ (depth ≤ deepest) × (proper depth code ≡ true) ⌝ }
     ensures { λ r. ⌜ r ≡ level depth code ⌝ }
 {
-    (31 - u32::leading_zeros(code)) / 3
+    (TOP_BIT - u32::leading_zeros(code)) / 3
 }
 
-// How many voxels the cell of a proper code has. Its highest one bit stands at place 3 * level, so the count of leading zeros is 31 less that.
+// How many voxels the cell of a proper code has. Its highest one bit stands at place 3 * level, so the count of leading zeros is `TOP_BIT` less that.
 pub fn width(depth: u32, code: u32) -> u32
     requires { ⌜ (depth ≤ deepest) × (proper depth code ≡ true) ⌝ }
     ensures { λ r. ⌜ r ≡ span depth code ⌝ }
 {
-    1u32 << (3 * depth + u32::leading_zeros(code) - 31)
+    1u32 << (3 * depth + u32::leading_zeros(code) - TOP_BIT)
 }
 
 // The least voxel number of the cell of a proper code.

@@ -17,6 +17,11 @@ ghost use Rattle.metres.specs.Metres.{finest};
 ghost use Rattle.metres.specs.Taken.{TakenOf};
 ghost use Rattle.metres.specs.Inner.{Rounded, Measured, sizeOf, fitted, withSign, together};
 
+// 2^31, where the signed 32-bit numbers end, and 2^32, a size in metres that is out of their range at every scale.
+const RANGE: u64 = 2147483648;
+
+const REACH: f64 = 4294967296.0;
+
 // What a move becomes: whole voxels, or number 5 with its place.
 pub enum Taken {
     Voxels(i32, i32, i32),
@@ -72,12 +77,12 @@ fn fit(negative: bool, k: u64) -> Coordinate
     ensures { λ r. ⌜ r ≡ fitted negative k ⌝ }
 {
     if negative {
-        if k <= 2147483648 {
+        if k <= RANGE {
             return Coordinate::Voxels((0 - (k as i64)) as i32);
         }
         return Coordinate::Bad;
     }
-    if k < 2147483648 {
+    if k < RANGE {
         return Coordinate::Voxels(k as i32);
     }
     Coordinate::Bad
@@ -89,7 +94,7 @@ fn of_size(negative: bool, a: f64, s: u32) -> Coordinate
     requires { ⌜ T (Ieee.lt (fin false 0 (pos 0)) a) ⌝ }
     ensures { λ r. ⌜ Rounded s (withSign negative a) r ⌝ }
 {
-    if a < 4294967296.0 {
+    if a < REACH {
         let h = halved(a, s);
         let k = size(negative, h);
         return fit(negative, k);
