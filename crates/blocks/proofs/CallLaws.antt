@@ -32,8 +32,8 @@ pub checks-blocks : (b : List ℕ) → Opening (Unsound b ∷ []) (λ r. r ≡ g
 checks-blocks b = record { numbered = (unsound-numbered b, tt); succeeds = λ r e. ap (λ (x : Answer). x .number) e; known = λ r (unsound, _) e. (not-unsound b unsound, e) }
 
 -- and with the judgement of the file: the blocks, then the list that they hold
-abbrev pub JudgedOf : List ℕ → Answer → Type 0
-JudgedOf b = Decided alone (Unsound b ∷ Faulty (depthOf b) (codes b) 1 ∷ []) (λ r. r ≡ given (length (codes b)))
+abbrev pub FileJudgedOf : List ℕ → Answer → Type 0
+FileJudgedOf b = Decided alone (Unsound b ∷ Faulty (depthOf b) (codes b) 1 ∷ []) (λ r. r ≡ given (length (codes b)))
 
 pub judges-file : (b : List ℕ) → Opening (Unsound b ∷ Faulty (depthOf b) (codes b) 1 ∷ []) (λ r. r ≡ given (length (codes b))) (λ r. Held b (r .place) × (r ≡ given (length (codes b))))
 judges-file b = record {
@@ -44,10 +44,10 @@ judges-file b = record {
 }
 
 -- a refusal holds nothing
-pub holds-nothing : (b : List ℕ) (r : Holding) (a : Answer) → r .answer ≡ a → (a .number ≡ 0 → ⊥) → JudgedOf b a → HoldingOf b r
+pub holds-nothing : (b : List ℕ) (r : Holding) (a : Answer) → r .answer ≡ a → (a .number ≡ 0 → ⊥) → FileJudgedOf b a → HoldingOf b r
 holds-nothing b r a e some d =
     let none : r .answer .number ≡ 0 → ⊥ = λ z. some (ap (λ (x : Answer). x .number) (sym e) ∙ z) in
-    record { tells = subst⁻¹ (JudgedOf b) e d; is-depth = λ z. absurd (none z); is-voxels = λ z. absurd (none z) }
+    record { tells = subst⁻¹ (FileJudgedOf b) e d; is-depth = λ z. absurd (none z); is-voxels = λ z. absurd (none z) }
 
 -- ---- no second answer
 

@@ -13,7 +13,7 @@ use Rattle.cells.specs.declared.Answer.{Answer}
 use Rattle.cells.proofs.Power.{le-or-lt}
 use Rattle.blocks.specs.declared.Sums.{Sums}
 use Rattle.blocks.specs.declared.Reading.{Reading}
-use Rattle.blocks.specs.Block.{word, check, blocks, whole, soundAt, depthOf}
+use Rattle.blocks.specs.Block.{blockBytes, word, check, blocks, whole, soundAt, depthOf}
 use Rattle.blocks.specs.File.{byteOf}
 use Rattle.blocks.specs.Calls.{Unsound, BlockCheckOf, StoredVolumeOf, unread, ReadOf}
 use Rattle.cells.proofs.Bools.{clash}
@@ -47,8 +47,8 @@ pub record Changed (b b' : List ℕ) (i w : ℕ) : Type 0 where
   pub same-length : length b' ≡ length b
   pub block : i < blocks b
   pub in-block : w < 128
-  pub before : (k : ℕ) → k < 512 * i + 4 * w → getD b' k 0 ≡ getD b k 0
-  pub after : (k : ℕ) → 512 * i + 4 * w + 4 ≤ k → getD b' k 0 ≡ getD b k 0
+  pub before : (k : ℕ) → k < blockBytes * i + 4 * w → getD b' k 0 ≡ getD b k 0
+  pub after : (k : ℕ) → blockBytes * i + 4 * w + 4 ≤ k → getD b' k 0 ≡ getD b k 0
   pub differs : b' ≡ b → ⊥
 
 module _ (b b' : List ℕ) (i w : ℕ) (c : Changed b b' i w) where
@@ -56,33 +56,33 @@ module _ (b b' : List ℕ) (i w : ℕ) (c : Changed b b' i w) where
   other : (j v : ℕ) → v < 128 → (128 * j + v ≡ 128 * i + w → ⊥) → word b' j v ≡ word b j v
   unfolding word
   other j v h ne = rw (
-    at 0 (512 * j + 4 * v) (omega arith) (omega arith),
-    at 1 (512 * j + 4 * v + 1) (omega arith) refl,
-    at 2 (512 * j + 4 * v + 2) (omega arith) refl,
-    at 3 (512 * j + 4 * v + 3) (omega arith) refl,
+    at 0 (blockBytes * j + 4 * v) (omega arith) (omega arith),
+    at 1 (blockBytes * j + 4 * v + 1) (omega arith) refl,
+    at 2 (blockBytes * j + 4 * v + 2) (omega arith) refl,
+    at 3 (blockBytes * j + 4 * v + 3) (omega arith) refl,
   )
     where
-      at : (k n : ℕ) → k < 4 → n ≡ 512 * j + 4 * v + k → getD b' n 0 ≡ getD b n 0
-      at k n l e = ⊎-elim (λ (x : 512 * i + 4 * w + 4 ≤ n). c .after n x) (λ (x : n < 512 * i + 4 * w + 4). c .before n (omega (arith, ne))) (le-or-lt (512 * i + 4 * w + 4) n)
+      at : (k n : ℕ) → k < 4 → n ≡ blockBytes * j + 4 * v + k → getD b' n 0 ≡ getD b n 0
+      at k n l e = ⊎-elim (λ (x : blockBytes * i + 4 * w + 4 ≤ n). c .after n x) (λ (x : n < blockBytes * i + 4 * w + 4). c .before n (omega (arith, ne))) (le-or-lt (blockBytes * i + 4 * w + 4) n)
 
   -- the word itself
   new : word b' i w ≡ word b i w → ⊥
-  new e = c .differs (ext-getD 0 b' b (c .same-length) (λ k h. at k (le-or-lt (512 * i + 4 * w) k) (le-or-lt (512 * i + 4 * w + 4) k)))
+  new e = c .differs (ext-getD 0 b' b (c .same-length) (λ k h. at k (le-or-lt (blockBytes * i + 4 * w) k) (le-or-lt (blockBytes * i + 4 * w + 4) k)))
     where
-      at : (k : ℕ) → (512 * i + 4 * w ≤ k) ⊎ (k < 512 * i + 4 * w) → (512 * i + 4 * w + 4 ≤ k) ⊎ (k < 512 * i + 4 * w + 4) → getD b' k 0 ≡ getD b k 0
+      at : (k : ℕ) → (blockBytes * i + 4 * w ≤ k) ⊎ (k < blockBytes * i + 4 * w) → (blockBytes * i + 4 * w + 4 ≤ k) ⊎ (k < blockBytes * i + 4 * w + 4) → getD b' k 0 ≡ getD b k 0
       at k (inr x) y = c .before k x
       at k (inl x) (inl y) = c .after k y
       at k (inl x) (inr y) =
-          let z : 512 * i + 4 * w + (k - (512 * i + 4 * w)) ≡ k = omega arith in
+          let z : blockBytes * i + 4 * w + (k - (blockBytes * i + 4 * w)) ≡ k = omega arith in
           ap (λ (n : ℕ). getD b' n 0) (sym z)
-          ∙ sym (bytes-of-word b' (c .bytes') i w (k - (512 * i + 4 * w)) (omega arith))
-          ∙ ap (λ (x : ℕ). byteOf x (k - (512 * i + 4 * w))) e
-          ∙ bytes-of-word b (c .bytes) i w (k - (512 * i + 4 * w)) (omega arith)
+          ∙ sym (bytes-of-word b' (c .bytes') i w (k - (blockBytes * i + 4 * w)) (omega arith))
+          ∙ ap (λ (x : ℕ). byteOf x (k - (blockBytes * i + 4 * w))) e
+          ∙ bytes-of-word b (c .bytes) i w (k - (blockBytes * i + 4 * w)) (omega arith)
           ∙ ap (λ (n : ℕ). getD b n 0) z
 
   module _ (s : Sound b) where
     same-blocks : blocks b' ≡ blocks b
-    same-blocks = ap (λ (n : ℕ). n / 512) (c .same-length)
+    same-blocks = ap (λ (n : ℕ). n / blockBytes) (c .same-length)
 
     same-whole : whole b' ≡ true
     unfolding whole

@@ -19,7 +19,7 @@ use Rattle.records.proofs.Leaves.{member}
 use Rattle.records.proofs.Fault.{member-at, all-made}
 use Rattle.records.proofs.Most.{few-leaves}
 use Rattle.blocks.specs.declared.Sums.{Sums}
-use Rattle.blocks.specs.Block.{word, check, rightCount, soundBlock, blocks, whole, depthOf, codes}
+use Rattle.blocks.specs.Block.{blockBytes, blockCodes, word, check, rightCount, soundBlock, blocks, whole, depthOf, codes}
 use Rattle.blocks.specs.Inner.{Sound}
 use Rattle.blocks.specs.File.{blocksOf, plain, words, byteOf, fileOf}
 use Rattle.blocks.proofs.Files.{plain-code, words-plain, words-a, words-b, file-length, file-byte}
@@ -28,13 +28,13 @@ use Rattle.blocks.proofs.Words.{word-of-bytes, bytes-of-word, each-word
 
 -- ---- from the list to the file
 
-right-made : (n i k : ℕ) → (i + 1 < n → k ≡ 122) → k ≤ 122 → (k ≡ 0 → n ≡ 1) → rightCount n i k ≡ true
+right-count : (n i k : ℕ) → (i + 1 < n → k ≡ blockCodes) → k ≤ blockCodes → (k ≡ 0 → n ≡ 1) → rightCount n i k ≡ true
 unfolding rightCount
-right-made n i k a b c = ⊎-elim (λ (x : n ≤ i + 1). last x (le-or-lt 1 k)) (λ (x : i + 1 < n). rw (rightCount, lt-ltb (i + 1) n x, eq-eqb k 122 (a x))) (le-or-lt n (i + 1))
+right-count n i k a b c = ⊎-elim (λ (x : n ≤ i + 1). last x (le-or-lt 1 k)) (λ (x : i + 1 < n). rw (rightCount, lt-ltb (i + 1) n x, eq-eqb k blockCodes (a x))) (le-or-lt n (i + 1))
   where
     last : n ≤ i + 1 → (1 ≤ k) ⊎ (k < 1) → rightCount n i k ≡ true
-    last x (inl y) = rw (rightCount, le-ltb (i + 1) n x, le-leb k 122 b, le-leb 1 k y)
-    last x (inr y) = rw (rightCount, le-ltb (i + 1) n x, le-leb k 122 b, lt-leb 1 k y, eq-eqb n 1 (c (omega arith)))
+    last x (inl y) = rw (rightCount, le-ltb (i + 1) n x, le-leb k blockCodes b, le-leb 1 k y)
+    last x (inr y) = rw (rightCount, le-ltb (i + 1) n x, le-leb k blockCodes b, lt-leb 1 k y, eq-eqb n 1 (c (omega arith)))
 
 module _ (D : ℕ) (l : List ℕ) (shallow : D ≤ deepest) (g : Good D l) where
   few : blocksOf (length l) < 2 ^ 32
@@ -54,7 +54,7 @@ module _ (D : ℕ) (l : List ℕ) (shallow : D ≤ deepest) (g : Good D l) where
   plain-small i (suc (suc zero)) h k = omega (arith, shallow)
   plain-small i (suc (suc (suc zero))) h k = omega arith
   plain-small i (suc (suc (suc (suc w)))) h k =
-      let u : ℕ = suc (suc (suc (suc w))) in omega (arith, plain-code D l i u (omega arith) k, code-small (122 * i + (u - 4)))
+      let u : ℕ = suc (suc (suc (suc w))) in omega (arith, plain-code D l i u (omega arith) k, code-small (blockCodes * i + (u - 4)))
 
   words-small : (i : ℕ) → i < blocksOf (length l) → (w : ℕ) → w < 128 → words D l i w < 2 ^ 32
   words-small i h =
@@ -62,9 +62,9 @@ module _ (D : ℕ) (l : List ℕ) (shallow : D ≤ deepest) (g : Good D l) where
       (omega (arith, words-b D l i, check-small (plain D l i) 126))
 
   word-file : (i w : ℕ) → i < blocksOf (length l) → w < 128 → word (fileOf D l) i w ≡ words D l i w
-  word-file i w h k = word-of-bytes (fileOf D l) i w (words D l i w) (words-small i h w k) (λ j x. file-byte D l i w j (512 * i + 4 * w + j) h k x refl)
+  word-file i w h k = word-of-bytes (fileOf D l) i w (words D l i w) (words-small i h w k) (λ j x. file-byte D l i w j (blockBytes * i + 4 * w + j) h k x refl)
 
-  held : (i : ℕ) → words D l i 3 ≡ min 122 (length l - 122 * i)
+  held : (i : ℕ) → words D l i 3 ≡ min blockCodes (length l - blockCodes * i)
   unfolding plain
   held i = words-plain D l i 3 (omega arith)
 
@@ -76,8 +76,8 @@ module _ (D : ℕ) (l : List ℕ) (shallow : D ≤ deepest) (g : Good D l) where
       let depth : words D l i 2 ≡ D = words-plain D l i 2 (omega arith) in
       let sums : check (words D l i) 126 ≡ check (plain D l i) 126 = check-ext (plain D l i) (words D l i) 126 (λ k x. words-plain D l i k x) in
       sym (sound-last (words D l i) i (blocksOf (length l)) D (words-plain D l i 0 (omega arith)) (words-plain D l i 1 (omega arith)) (omega (arith, shallow)) depth
-      (right-made (blocksOf (length l)) i (words D l i 3) (λ x. omega arith) (omega arith) (λ x. omega arith))
-      (all-made (λ w. eqb (words D l i w) 0) (4 + words D l i 3) (122 - words D l i 3)
+      (right-count (blocksOf (length l)) i (words D l i 3) (λ x. omega arith) (omega arith) (λ x. omega arith))
+      (all-made (λ w. eqb (words D l i w) 0) (4 + words D l i 3) (blockCodes - words D l i 3)
       (λ w lo hi. eq-eqb (words D l i w) 0 (words-plain D l i w (omega arith) ∙ plain-code D l i w (omega arith) (omega arith) ∙ List·getD-eq-default l 0 (omega arith)))))
       ∙ rw (eq-eqb (words D l i 126) (check (words D l i) 126 .a) (words-a D l i ∙ ap (λ (x : Sums). x .a) (sym sums)), eq-eqb (words D l i 127) (check (words D l i) 126 .b) (words-b D l i ∙ ap (λ (x : Sums). x .b) (sym sums)))
 
@@ -91,7 +91,7 @@ module _ (D : ℕ) (l : List ℕ) (shallow : D ≤ deepest) (g : Good D l) where
   pub file-sound : Sound (fileOf D l)
   unfolding whole
   file-sound = record {
-    is-whole = rw (le-leb 1 (blocks (fileOf D l)) (omega (arith, file-blocks)), eq-eqb (length (fileOf D l) % 512) 0 (omega (arith, file-length D l)));
+    is-whole = rw (le-leb 1 (blocks (fileOf D l)) (omega (arith, file-blocks)), eq-eqb (length (fileOf D l) % blockBytes) 0 (omega (arith, file-length D l)));
     each = λ i h.
         rw (file-blocks, file-depth)
         (sound-ext (words D l i) (word (fileOf D l) i) i (blocksOf (length l)) D (λ w k. word-file i w (omega (arith, file-blocks)) k) ∙ words-sound i (omega (arith, file-blocks)));
@@ -106,14 +106,14 @@ module _ (D : ℕ) (l : List ℕ) (shallow : D ≤ deepest) (g : Good D l) where
       at : (j : ℕ) → j < length l → getD (codes (fileOf D l)) j 0 ≡ getD l j 0
       at j h =
           codes-at (fileOf D l) j (omega (arith, size))
-          ∙ word-file (j / 122) (4 + j % 122) (omega arith) (omega arith)
-          ∙ words-plain D l (j / 122) (4 + j % 122) (omega arith)
-          ∙ plain-code D l (j / 122) (4 + j % 122) (omega arith) (omega arith)
+          ∙ word-file (j / blockCodes) (4 + j % blockCodes) (omega arith) (omega arith)
+          ∙ words-plain D l (j / blockCodes) (4 + j % blockCodes) (omega arith)
+          ∙ plain-code D l (j / blockCodes) (4 + j % blockCodes) (omega arith) (omega arith)
           ∙ ap (λ (n : ℕ). getD l n 0) (omega arith)
 
 -- ---- a sound file is the file of its codes
 
-count-blocks : (n k m : ℕ) → 1 ≤ n → k ≤ 122 → (k ≡ 0 → n ≤ 1) → m ≡ 122 * (n - 1) + k → blocksOf m ≡ n
+count-blocks : (n k m : ℕ) → 1 ≤ n → k ≤ blockCodes → (k ≡ 0 → n ≤ 1) → m ≡ blockCodes * (n - 1) + k → blocksOf m ≡ n
 count-blocks n k m a b c e = ⊎-elim (λ (x : 1 ≤ k). omega arith) (λ (x : k < 1). omega (arith, c (omega arith))) (le-or-lt 1 k)
 
 module _ (b : List ℕ) (s : Sound b) where
@@ -127,23 +127,23 @@ module _ (b : List ℕ) (s : Sound b) where
     p = right-words b s i h
 
     -- how many codes block i holds, counted from the file's end
-    held-here : min 122 (length (codes b) - 122 * i) ≡ word b i 3
+    held-here : min blockCodes (length (codes b) - blockCodes * i) ≡ word b i 3
     held-here = ⊎-elim (λ (x : blocks b ≤ i + 1). at-last (omega arith)) (λ (x : i + 1 < blocks b). omega (arith, p .full x, codes-length b)) (le-or-lt (blocks b) (i + 1))
       where
-        at-last : i ≡ blocks b - 1 → min 122 (length (codes b) - 122 * i) ≡ word b i 3
+        at-last : i ≡ blocks b - 1 → min blockCodes (length (codes b) - blockCodes * i) ≡ word b i 3
         at-last e = omega (arith, codes-length b, p .most, ap (λ (n : ℕ). word b n 3) e)
 
-    code-same : (w : ℕ) → 4 ≤ w → w < 126 → getD (codes b) (122 * i + (w - 4)) 0 ≡ word b i w
-    code-same w lo hi = ⊎-elim (λ (x : length (codes b) ≤ 122 * i + (w - 4)). none x) (λ (x : 122 * i + (w - 4) < length (codes b)). one x) (le-or-lt (length (codes b)) (122 * i + (w - 4)))
+    code-same : (w : ℕ) → 4 ≤ w → w < 126 → getD (codes b) (blockCodes * i + (w - 4)) 0 ≡ word b i w
+    code-same w lo hi = ⊎-elim (λ (x : length (codes b) ≤ blockCodes * i + (w - 4)). none x) (λ (x : blockCodes * i + (w - 4) < length (codes b)). one x) (le-or-lt (length (codes b)) (blockCodes * i + (w - 4)))
       where
-        none : length (codes b) ≤ 122 * i + (w - 4) → getD (codes b) (122 * i + (w - 4)) 0 ≡ word b i w
+        none : length (codes b) ≤ blockCodes * i + (w - 4) → getD (codes b) (blockCodes * i + (w - 4)) 0 ≡ word b i w
         none x = List·getD-eq-default (codes b) 0 x ∙ sym (p .unused w (omega (arith, held-here)) hi)
 
-        one : 122 * i + (w - 4) < length (codes b) → getD (codes b) (122 * i + (w - 4)) 0 ≡ word b i w
+        one : blockCodes * i + (w - 4) < length (codes b) → getD (codes b) (blockCodes * i + (w - 4)) 0 ≡ word b i w
         one x =
-            let q : (122 * i + (w - 4)) / 122 ≡ i = omega arith in
-            let r : 4 + (122 * i + (w - 4)) % 122 ≡ w = omega arith in
-            codes-at b (122 * i + (w - 4)) x ∙ rw (q, r)
+            let q : (blockCodes * i + (w - 4)) / blockCodes ≡ i = omega arith in
+            let r : 4 + (blockCodes * i + (w - 4)) % blockCodes ≡ w = omega arith in
+            codes-at b (blockCodes * i + (w - 4)) x ∙ rw (q, r)
 
     plain-same : (w : ℕ) → w < 126 → plain (depthOf b) (codes b) i w ≡ word b i w
     unfolding plain
@@ -167,8 +167,8 @@ module _ (b : List ℕ) (s : Sound b) where
 
       at : (j : ℕ) → j < length b → getD (fileOf (depthOf b) (codes b)) j 0 ≡ getD b j 0
       at j h =
-          let hi : j / 512 < blocks b = omega (arith, all-blocks b s) in
-          file-byte (depthOf b) (codes b) (j / 512) (j % 512 / 4) (j % 4) j (omega (arith, same-blocks)) (omega arith) (omega arith) (omega arith)
-          ∙ ap (λ (x : ℕ). byteOf x (j % 4)) (words-same (j / 512) hi (j % 512 / 4) (omega arith))
-          ∙ bytes-of-word b bytes (j / 512) (j % 512 / 4) (j % 4) (omega arith)
+          let hi : j / blockBytes < blocks b = omega (arith, all-blocks b s) in
+          file-byte (depthOf b) (codes b) (j / blockBytes) (j % blockBytes / 4) (j % 4) j (omega (arith, same-blocks)) (omega arith) (omega arith) (omega arith)
+          ∙ ap (λ (x : ℕ). byteOf x (j % 4)) (words-same (j / blockBytes) hi (j % blockBytes / 4) (omega arith))
+          ∙ bytes-of-word b bytes (j / blockBytes) (j % blockBytes / 4) (j % 4) (omega arith)
           ∙ ap (λ (n : ℕ). getD b n 0) (omega arith)

@@ -28,8 +28,8 @@ pub record RightWords (v : ℕ → ℕ) (i n D : ℕ) : Type 0 where
   pub shallow : v 2 ≤ deepest
   pub depth : v 2 ≡ D
   pub count : rightCount n i (v 3) ≡ true
-  pub full : i + 1 < n → v 3 ≡ 122
-  pub most : v 3 ≤ 122
+  pub full : i + 1 < n → v 3 ≡ blockCodes
+  pub most : v 3 ≤ blockCodes
   pub some : v 3 ≡ 0 → n ≤ 1
   pub zeros : unusedZero v ≡ true
   pub unused : (w : ℕ) → 4 + v 3 ≤ w → w < 126 → v w ≡ 0
@@ -37,17 +37,17 @@ pub record RightWords (v : ℕ → ℕ) (i n D : ℕ) : Type 0 where
   pub check-b : v 127 ≡ check v 126 .b
 
 -- the count of codes, by the two cases
-right-inner : (n i k : ℕ) → i + 1 < n → rightCount n i k ≡ true → k ≡ 122
+right-inner : (n i k : ℕ) → i + 1 < n → rightCount n i k ≡ true → k ≡ blockCodes
 unfolding rightCount
-right-inner n i k h t = eqb-true k 122 (rw (rightCount, lt-ltb (i + 1) n h) at t)
+right-inner n i k h t = eqb-true k blockCodes (rw (rightCount, lt-ltb (i + 1) n h) at t)
 
-right-last : (n i k : ℕ) → n ≤ i + 1 → rightCount n i k ≡ true → (k ≤ 122) × (k ≡ 0 → n ≡ 1)
+right-last : (n i k : ℕ) → n ≤ i + 1 → rightCount n i k ≡ true → (k ≤ blockCodes) × (k ≡ 0 → n ≡ 1)
 unfolding rightCount
 right-last n i k h t =
-    let (a, b) = both-true (leb k 122) (leb 1 k || eqb n 1) (rw (rightCount, le-ltb (i + 1) n h) at t) in
-    (leb-true k 122 a, λ z. eqb-true n 1 (rw z at b))
+    let (a, b) = both-true (leb k blockCodes) (leb 1 k || eqb n 1) (rw (rightCount, le-ltb (i + 1) n h) at t) in
+    (leb-true k blockCodes a, λ z. eqb-true n 1 (rw z at b))
 
-pub right-most : (n i k : ℕ) → rightCount n i k ≡ true → k ≤ 122
+pub right-most : (n i k : ℕ) → rightCount n i k ≡ true → k ≤ blockCodes
 right-most n i k e = ⊎-elim (λ (l : n ≤ i + 1). right-last n i k l e .0) (λ (l : i + 1 < n). omega (arith, right-inner n i k l e)) (le-or-lt n (i + 1))
 
 pub sound-words : (v : ℕ → ℕ) (i n D : ℕ) → soundBlock v i n D ≡ true → RightWords v i n D
@@ -70,7 +70,7 @@ sound-words v i n D t =
       most = right-most n i (v 3) e;
       some = λ z. ⊎-elim (λ (l : n ≤ i + 1). omega (arith, right-last n i (v 3) l e .1 z)) (λ (l : i + 1 < n). absurd (omega (arith, right-inner n i (v 3) l e))) (le-or-lt n (i + 1));
       zeros = f;
-      unused = λ w lo hi. eqb-true (v w) 0 (all-true (λ x. eqb (v x) 0) (4 + v 3) (122 - v 3) f w lo (omega arith));
+      unused = λ w lo hi. eqb-true (v w) 0 (all-true (λ x. eqb (v x) 0) (4 + v 3) (blockCodes - v 3) f w lo (omega arith));
       check-a = eqb-true (v 126) (check v 126 .a) ga;
       check-b = eqb-true (v 127) (check v 126 .b) gb;
     }

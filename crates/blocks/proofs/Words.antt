@@ -9,37 +9,37 @@ use lib.Dec.{eqb}
 use lib.ListN.{getD}
 use Rattle.cells.proofs.Power.{le-or-lt}
 use Rattle.records.specs.Fault.{allFrom}
-use Rattle.blocks.specs.Block.{word, check, soundBlock}
+use Rattle.blocks.specs.Block.{blockBytes, blockCodes, word, check, soundBlock}
 use Rattle.blocks.specs.File.{byteOf}
 
 -- ---- a word and its bytes
 
 -- four bytes that are those of x make x
-pub word-of-bytes : (b : List ℕ) (i w x : ℕ) → x < 2 ^ 32 → ((k : ℕ) → k < 4 → getD b (512 * i + 4 * w + k) 0 ≡ byteOf x k) → word b i w ≡ x
+pub word-of-bytes : (b : List ℕ) (i w x : ℕ) → x < 2 ^ 32 → ((k : ℕ) → k < 4 → getD b (blockBytes * i + 4 * w + k) 0 ≡ byteOf x k) → word b i w ≡ x
 unfolding word byteOf
 word-of-bytes b i w x h f =
-    let zero' : getD b (512 * i + 4 * w) 0 ≡ x % 256 = ap (λ (n : ℕ). getD b n 0) (none (512 * i + 4 * w)) ∙ f 0 (omega arith) in
+    let zero' : getD b (blockBytes * i + 4 * w) 0 ≡ x % 256 = ap (λ (n : ℕ). getD b n 0) (none (blockBytes * i + 4 * w)) ∙ f 0 (omega arith) in
     omega (arith, f 1 (omega arith), f 2 (omega arith), f 3 (omega arith))
   where
     none : (n : ℕ) → n ≡ n + 0
     none n = omega arith
 
 -- and a word's bytes are those that it is made of
-pub bytes-of-word : (b : List ℕ) → ((k : ℕ) → getD b k 0 < 256) → (i w k : ℕ) → k < 4 → byteOf (word b i w) k ≡ getD b (512 * i + 4 * w + k) 0
+pub bytes-of-word : (b : List ℕ) → ((k : ℕ) → getD b k 0 < 256) → (i w k : ℕ) → k < 4 → byteOf (word b i w) k ≡ getD b (blockBytes * i + 4 * w + k) 0
 unfolding word byteOf
 bytes-of-word b h i w zero l =
-    ap (λ (n : ℕ). n) (omega (arith, h (512 * i + 4 * w))) ∙ ap (λ (n : ℕ). getD b n 0) (none (512 * i + 4 * w))
+    ap (λ (n : ℕ). n) (omega (arith, h (blockBytes * i + 4 * w))) ∙ ap (λ (n : ℕ). getD b n 0) (none (blockBytes * i + 4 * w))
   where
     none : (n : ℕ) → n ≡ n + 0
     none n = omega arith
-bytes-of-word b h i w (suc zero) l = omega (arith, h (512 * i + 4 * w), h (512 * i + 4 * w + 1))
-bytes-of-word b h i w (suc (suc zero)) l = omega (arith, h (512 * i + 4 * w), h (512 * i + 4 * w + 1), h (512 * i + 4 * w + 2))
-bytes-of-word b h i w (suc (suc (suc zero))) l = omega (arith, h (512 * i + 4 * w), h (512 * i + 4 * w + 1), h (512 * i + 4 * w + 2), h (512 * i + 4 * w + 3))
+bytes-of-word b h i w (suc zero) l = omega (arith, h (blockBytes * i + 4 * w), h (blockBytes * i + 4 * w + 1))
+bytes-of-word b h i w (suc (suc zero)) l = omega (arith, h (blockBytes * i + 4 * w), h (blockBytes * i + 4 * w + 1), h (blockBytes * i + 4 * w + 2))
+bytes-of-word b h i w (suc (suc (suc zero))) l = omega (arith, h (blockBytes * i + 4 * w), h (blockBytes * i + 4 * w + 1), h (blockBytes * i + 4 * w + 2), h (blockBytes * i + 4 * w + 3))
 bytes-of-word b h i w (suc (suc (suc (suc k)))) l = absurd (omega arith)
 
 pub word-small : (b : List ℕ) → ((k : ℕ) → getD b k 0 < 256) → (i w : ℕ) → word b i w < 2 ^ 32
 unfolding word
-word-small b h i w = omega (arith, h (512 * i + 4 * w), h (512 * i + 4 * w + 1), h (512 * i + 4 * w + 2), h (512 * i + 4 * w + 3))
+word-small b h i w = omega (arith, h (blockBytes * i + 4 * w), h (blockBytes * i + 4 * w + 1), h (blockBytes * i + 4 * w + 2), h (blockBytes * i + 4 * w + 3))
 
 -- what holds of the words before the check and of the check's holds of all
 pub each-word : (P : ℕ → Type 0) → ((w : ℕ) → w < 126 → P w) → P 126 → P 127 → (w : ℕ) → w < 128 → P w
@@ -72,5 +72,5 @@ all-ext P Q s (suc n) f = ap₂ _&&_ (f (s + n) (omega arith) (omega arith)) (al
 pub sound-ext : (v v' : ℕ → ℕ) (i n D : ℕ) → ((w : ℕ) → w < 128 → v' w ≡ v w) → soundBlock v' i n D ≡ soundBlock v i n D
 unfolding soundBlock
 sound-ext v v' i n D f =
-    let zeros = all-ext (λ w. eqb (v' w) 0) (λ w. eqb (v w) 0) (4 + v 3) (122 - v 3) (λ w lo hi. ap (λ (x : ℕ). eqb x 0) (f w (omega arith))) in
+    let zeros = all-ext (λ w. eqb (v' w) 0) (λ w. eqb (v w) 0) (4 + v 3) (blockCodes - v 3) (λ w lo hi. ap (λ (x : ℕ). eqb x 0) (f w (omega arith))) in
     rw (f 0 (omega arith), f 1 (omega arith), f 2 (omega arith), f 3 (omega arith), zeros, f 126 (omega arith), f 127 (omega arith), check-ext v v' 126 (λ k h. f k (omega arith)))

@@ -28,13 +28,13 @@ module _ (c : tie.Else2) where
   b = c .before .before .before .args .bytes .now
 
   whole-file : whole b ≡ true
-  whole-file = let z : length b % 512 ≡ 0 = search needs in is-whole b (c .before .if1 .left) z
+  whole-file = let z : length b % blockBytes ≡ 0 = search needs in is-whole b (c .before .if1 .left) z
 
 module _ (c : tie.Else3) where
   is-sound : Sound (b (c .before .before))
   is-sound =
       let f = c .before in
-      let all : f .first-unsound .result ≡ length (b (f .before)) / 512 = search needs in
+      let all : f .first-unsound .result ≡ length (b (f .before)) / blockBytes = search needs in
       record { is-whole = whole-file (f .before); each = stops-never (f .first-unsound .ensures) (omega arith) }
 
 pub check-blocks-spec : {M : Type 1} → statement M
@@ -44,7 +44,7 @@ check-blocks-spec =
     (λ c κs. search needs)
     (λ c.
     let b = c .before .before .before .args .bytes .now in
-    let z : length b / 512 ≡ 0 = c .before .if1 .taken in
+    let z : length b / blockBytes ≡ 0 = c .before .if1 .taken in
     bad-length b _ (no-block b z) (c .refusal .ensures ∙ ap (λ (n : ℕ). answer 9 n 0) (sym z)))
     (λ c κs. search needs)
     (λ c.
@@ -55,7 +55,7 @@ check-blocks-spec =
     (λ c.
     let f = c .before .before in
     let stops = f .first-unsound .ensures in
-    let below : f .first-unsound .result < length (b (f .before)) / 512 = omega (arith, stops .within, c .before .if3 .taken) in
+    let below : f .first-unsound .result < length (b (f .before)) / blockBytes = omega (arith, stops .within, c .before .if3 .taken) in
     inl (_, inr (whole-file (f .before), (_, stops-first stops below, refl)), c .refusal3 .ensures))
     (λ c κs. (is-sound c, refl))
     (λ c κs. search needs)

@@ -16,7 +16,7 @@ use Rattle.records.proofs.Walks.{walked-refuses, walked-volume}
 use Rattle.blocks.specs.Block.{depthOf, codes}
 use Rattle.blocks.specs.Inner.{Sound}
 use Rattle.blocks.proofs.Sound.{some-block, all-blocks, sound-passes}
-use Rattle.blocks.proofs.CallLaws.{JudgedOf, checks-blocks, judges-file, holds-nothing}
+use Rattle.blocks.proofs.CallLaws.{FileJudgedOf, checks-blocks, judges-file, holds-nothing}
 use Rattle.blocks.proofs.inner.held.holding_of.Statement.{statement}
 use Rattle.blocks.proofs.inner.held.holding_of.Tie as tie
 
@@ -56,10 +56,10 @@ module _ (c : tie.After-told) where
   walked = subst (λ (d : ℕ). Walked d (codes (b e)) (length (codes (b e))) (at-walk .judge-stored .result)) is-depth (at-walk .judge-stored .ensures)
 
   -- the judgement, past the blocks
-  judged : {r : Answer} → Decided alone (Faulty (depthOf (b e)) (codes (b e)) 1 ∷ []) (λ a. a ≡ given (length (codes (b e)))) r → JudgedOf (b e) r
+  judged : {r : Answer} → Decided alone (Faulty (depthOf (b e)) (codes (b e)) 1 ∷ []) (λ a. a ≡ given (length (codes (b e)))) r → FileJudgedOf (b e) r
   judged d = opening-passes (checks-blocks (b e)) _ (e .before .check-blocks .ensures) alone (Faulty (depthOf (b e)) (codes (b e)) 1 ∷ []) (λ a. a ≡ given (length (codes (b e)))) _ (none e) d
 
-  of-list : JudgedOf (b e) (c .told .result)
+  of-list : FileJudgedOf (b e) (c .told .result)
   of-list = judged (c .told .ensures (depthOf (b e)) (codes (b e)) walked)
 
 returns-3 : tie.Need-returns-3

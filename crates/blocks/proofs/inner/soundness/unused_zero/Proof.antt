@@ -11,7 +11,7 @@ use Rattle.records.specs.Fault.{allFrom}
 use Rattle.cells.proofs.Bools.{refuted}
 use Rattle.records.proofs.Fill.{all-true}
 use Rattle.records.proofs.Fault.{all-made}
-use Rattle.blocks.specs.Block.{word}
+use Rattle.blocks.specs.Block.{blockCodes, word}
 use Rattle.blocks.proofs.inner.soundness.unused_zero.Statement.{statement}
 use Rattle.blocks.proofs.inner.soundness.unused_zero.Tie as tie
 
@@ -44,7 +44,7 @@ unused-zero-spec =
     (λ c.
     let p = c .before in
     let k = a p .args .k in
-    sym (refuted (allFrom (zero-at p) (4 + k) (122 - k)) (λ t. c .if1 .taken (p .word-at .ensures ∙ eqb-true _ 0 (all-true (zero-at p) (4 + k) (122 - k) t (h p .loop .w) (h p .loop .inv .1) (omega arith))))))
+    sym (refuted (allFrom (zero-at p) (4 + k) (blockCodes - k)) (λ t. c .if1 .taken (p .word-at .ensures ∙ eqb-true _ 0 (all-true (zero-at p) (4 + k) (blockCodes - k) t (h p .loop .w) (h p .loop .inv .1) (omega arith))))))
     (λ c. search needs) (λ c. search needs)
     (λ c.
     let p = c .before in
@@ -53,4 +53,4 @@ unused-zero-spec =
     (λ c.
     let h = c .before in
     let a = h .before .before .args in
-    sym (all-made (λ w. eqb (word (a .bytes .now) (a .i) w) 0) (4 + a .k) (122 - a .k) (λ v lo hi. h .loop .inv .2 v (omega arith) lo))))
+    sym (all-made (λ w. eqb (word (a .bytes .now) (a .i) w) 0) (4 + a .k) (blockCodes - a .k) (λ v lo hi. h .loop .inv .2 v (omega arith) lo))))
