@@ -32,12 +32,12 @@ code-is D c p = omega (arith, proper-bounds D c p)
 
 -- ---- the cell of level k and index i
 
-pub record At (D k i : ℕ) : Type 0 where
+pub record Indexed (D k i : ℕ) : Type 0 where
   pub is-proper : proper D (8 ^ k + i) ≡ true
   pub is-level : level D (8 ^ k + i) ≡ k
   pub is-corner : (b : ℕ) → corner b D (8 ^ k + i) ≡ along b k i * 2 ^ (D - k)
 
-pub cell-at : (D k i : ℕ) → k ≤ D → i < 8 ^ k → At D k i
+pub cell-at : (D k i : ℕ) → k ≤ D → i < 8 ^ k → Indexed D k i
 unfolding index side corner
 cell-at D k i h l =
     let t = cell-of D k (D - k) i (omega arith) l in

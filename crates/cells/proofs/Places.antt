@@ -81,8 +81,12 @@ same-voxel n u v hu hv e =
     let z : along 4 n u ≡ along 4 n v = e 2 (omega arith) in
     sym (number-along n u hu) ∙ rw (x, y, z) (number-along n v hv)
 
--- a label's bit on an axis is that axis's
-pub label-axes : (f : ℕ → ℕ) → EachAxis (λ a. f a < 2) → EachAxis (λ a. (f 0 + 2 * f 1 + 4 * f 2) / 2 ^ a % 2 ≡ f a)
+-- a label's bit on axis a
+abbrev pub bitOf : ℕ → ℕ → ℕ
+bitOf a v = v / 2 ^ a % 2
+
+-- it is that axis's
+pub label-axes : (f : ℕ → ℕ) → EachAxis (λ a. f a < 2) → EachAxis (λ a. bitOf a (f 0 + 2 * f 1 + 4 * f 2) ≡ f a)
 label-axes f h =
     let x = h 0 (omega arith) in
     let y = h 1 (omega arith) in

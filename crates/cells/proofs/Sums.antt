@@ -12,7 +12,7 @@ use lib.ListN.{getD}
 use Rattle.cells.specs.Labels.{flips, carries}
 use Rattle.cells.specs.AhujaNash.{table2, plus, added, twos, summed}
 use Rattle.cells.specs.Place.{EachAxis, along, Came}
-use Rattle.cells.proofs.Places.{each-axis, along-lt, same-voxel}
+use Rattle.cells.proofs.Places.{each-axis, along-lt, same-voxel, bitOf}
 use Rattle.cells.proofs.Labelwise.{labelwise}
 use Rattle.cells.proofs.Table.{everywhere, at, at2, at3, at4}
 use Rattle.cells.proofs.Congruent.{congruent-equal, twos-congruent}
@@ -20,12 +20,9 @@ use Rattle.cells.proofs.Displacements.{displaced-parts}
 
 -- ---- the table's rule, over the whole table
 
--- the entry for the label v along axis a; a label's bit on axis a; the digit of a unit step along a, on axis b
+-- the entry for the label v along axis a; the digit of a unit step along a, on axis b
 abbrev entry : ℕ → ℕ → ℕ
 entry a v = getD (getD table2 v []) a 0
-
-abbrev bit : ℕ → ℕ → ℕ
-bit a v = v / 2 ^ a % 2
 
 abbrev unit : Bool → ℕ
 unit true = 1
@@ -34,14 +31,14 @@ unit false = 0
 -- The entry is a label and a carry, and document 01's rule for a unit step along a: on axis a it flips the bit and carries, the other bits stay.
 pub record UnitStep (a v : ℕ) : Type 0 where
   pub label : entry a v % 10 < 8
-  pub carry : entry a v / 10 ≡ carries (bit a v) 1
-  pub bits : EachAxis (λ b. bit b (entry a v % 10) ≡ flips (bit b v) (unit (eqb a b)))
+  pub carry : entry a v / 10 ≡ carries (bitOf a v) 1
+  pub bits : EachAxis (λ b. bitOf b (entry a v % 10) ≡ flips (bitOf b v) (unit (eqb a b)))
 
 pub unit-step : (a v : ℕ) → a < 3 → v < 8 → UnitStep a v
 unit-step a v ha hv = record {
   label = ltb→lt _ _ (at2 (λ a v. ltb (entry a v % 10) 8) 3 8 tt a v ha hv);
-  carry = eqb→eq _ _ (at2 (λ a v. eqb (entry a v / 10) (carries (bit a v) 1)) 3 8 tt a v ha hv);
-  bits = λ b h. eqb→eq _ _ (at3 (λ a v b. eqb (bit b (entry a v % 10)) (flips (bit b v) (unit (eqb a b)))) 3 8 3 tt a v b ha hv h);
+  carry = eqb→eq _ _ (at2 (λ a v. eqb (entry a v / 10) (carries (bitOf a v) 1)) 3 8 tt a v ha hv);
+  bits = λ b h. eqb→eq _ _ (at3 (λ a v b. eqb (bitOf b (entry a v % 10)) (flips (bitOf b v) (unit (eqb a b)))) 3 8 3 tt a v b ha hv h);
 }
 
 -- ---- a label, a bit t of the displacement along axis a, and a carry c: the new label and the carry out
@@ -60,7 +57,7 @@ on false x = 0
 record LabelSum (a v t c : ℕ) : Type 0 where
   label : new a v t c < 8
   carry : out a v t c < 2
-  bits : EachAxis (λ b. bit b (new a v t c) + 2 * on (eqb a b) (out a v t c) ≡ bit b v + on (eqb a b) (t + c))
+  bits : EachAxis (λ b. bitOf b (new a v t c) + 2 * on (eqb a b) (out a v t c) ≡ bitOf b v + on (eqb a b) (t + c))
 
 label-sum : (a v t c : ℕ) → a < 3 → v < 8 → t < 2 → c < 2 → LabelSum a v t c
 unfolding plus
@@ -69,8 +66,8 @@ label-sum a v t c ha hv ht hc = record {
   carry = ltb→lt _ _ (at4 (λ a v t c. ltb (out a v t c) 2) 3 8 2 2 tt a v t c ha hv ht hc);
   bits = λ b h.
       eqb→eq _ _
-      (at (λ b. eqb (bit b (new a v t c) + 2 * on (eqb a b) (out a v t c)) (bit b v + on (eqb a b) (t + c))) 3
-      (at4 (λ a v t c. everywhere (λ b. eqb (bit b (new a v t c) + 2 * on (eqb a b) (out a v t c)) (bit b v + on (eqb a b) (t + c))) 3) 3 8 2 2 tt a v t c ha hv ht hc) b h);
+      (at (λ b. eqb (bitOf b (new a v t c) + 2 * on (eqb a b) (out a v t c)) (bitOf b v + on (eqb a b) (t + c))) 3
+      (at4 (λ a v t c. everywhere (λ b. eqb (bitOf b (new a v t c) + 2 * on (eqb a b) (out a v t c)) (bitOf b v + on (eqb a b) (t + c))) 3) 3 8 2 2 tt a v t c ha hv ht hc) b h);
 }
 
 -- ---- all labels

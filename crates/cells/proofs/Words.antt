@@ -44,7 +44,7 @@ pub signed-axes : (P : (ℕ → ℤ) → Type 0) (x y z : ℤ) → SFits w32 x �
 signed-axes P x y z fx fy fz p = rw (toZ-ofZ w32 x fx, toZ-ofZ w32 y fy, toZ-ofZ w32 z fz) at p
 
 -- a shift of 1 by 3 * k, in a word of w bits
-pub shifted : (w k : ℕ) → 8 ^ k < 2 ^ w → (1 * 2 ^ (3 * k)) % 2 ^ w ≡ 8 ^ k
-shifted w k h =
+pub one-shifted : (w k : ℕ) → 8 ^ k < 2 ^ w → (1 * 2 ^ (3 * k)) % 2 ^ w ≡ 8 ^ k
+one-shifted w k h =
     let e : 1 * 2 ^ (3 * k) ≡ 8 ^ k = one-mul (2 ^ (3 * k)) ∙ pow8-bits k in
     rw e (mod-eq-of-lt h)

@@ -21,17 +21,17 @@ use Rattle.demands.proofs.Outcomes.{Left}
 
 -- ---- equal lists and equal answers, as tests
 
-abbrev pub same : List ℕ → List ℕ → Bool
-same [] [] = true
-same [] (y ∷ ys) = false
-same (x ∷ xs) [] = false
-same (x ∷ xs) (y ∷ ys) = eqb x y && same xs ys
+abbrev pub equal : List ℕ → List ℕ → Bool
+equal [] [] = true
+equal [] (y ∷ ys) = false
+equal (x ∷ xs) [] = false
+equal (x ∷ xs) (y ∷ ys) = eqb x y && equal xs ys
 
-same-is : (l m : List ℕ) → same l m ≡ true → l ≡ m
-same-is [] [] e = refl
-same-is [] (y ∷ ys) e = absurd (clash e refl)
-same-is (x ∷ xs) [] e = absurd (clash e refl)
-same-is (x ∷ xs) (y ∷ ys) e = let (p, q) = both-true (eqb x y) (same xs ys) e in ap₂ (λ (a : ℕ) (l : List ℕ). a ∷ l) (eqb-true x y p) (same-is xs ys q)
+equal-is : (l m : List ℕ) → equal l m ≡ true → l ≡ m
+equal-is [] [] e = refl
+equal-is [] (y ∷ ys) e = absurd (clash e refl)
+equal-is (x ∷ xs) [] e = absurd (clash e refl)
+equal-is (x ∷ xs) (y ∷ ys) e = let (p, q) = both-true (eqb x y) (equal xs ys) e in ap₂ (λ (a : ℕ) (l : List ℕ). a ∷ l) (eqb-true x y p) (equal-is xs ys q)
 
 abbrev pub sameAnswer : Answer → Answer → Bool
 sameAnswer a b = eqb (a .number) (b .number) && (eqb (a .place) (b .place) && eqb (a .list) (b .list))
@@ -44,12 +44,12 @@ same-answer a b e =
 
 -- what a call leaves, with the list that it wrote in the buffer's place
 abbrev pub agrees : Left → Answer → List ℕ → Bool
-agrees t r w = sameAnswer (t .0) r && same (t .1) w
+agrees t r w = sameAnswer (t .0) r && equal (t .1) w
 
 pub agrees-is : (t : Left) (r : Answer) (w : List ℕ) → agrees t r w ≡ true → t ≡ (r, w)
 agrees-is t r w e =
-    let (p, q) = both-true (sameAnswer (t .0) r) (same (t .1) w) e in
-    ap₂ (λ (a : Answer) (l : List ℕ). (a, l)) (same-answer (t .0) r p) (same-is (t .1) w q)
+    let (p, q) = both-true (sameAnswer (t .0) r) (equal (t .1) w) e in
+    ap₂ (λ (a : Answer) (l : List ℕ). (a, l)) (same-answer (t .0) r p) (equal-is (t .1) w q)
 
 -- what is left of the buffer o where a list is written at its front
 abbrev pub leaving : List ℕ → Left → Left
@@ -64,11 +64,11 @@ faultless D l n = allFrom (λ i. eqb (fault D l i) 0) 0 n
 pub faultless-is : (D : ℕ) (l : List ℕ) (n : ℕ) → faultless D l n ≡ true → (i : ℕ) → i < n → fault D l i ≡ 0
 faultless-is D l n e i h = eqb-true _ _ (all-true (λ j. eqb (fault D l j) 0) 0 n e i zero-le (omega arith))
 
-abbrev pub sound : ℕ → List ℕ → Bool
-sound D l = leb D deepest && faultless D l (length l)
+abbrev pub goodAt : ℕ → List ℕ → Bool
+goodAt D l = leb D deepest && faultless D l (length l)
 
-pub sound-is : (D : ℕ) (l : List ℕ) → sound D l ≡ true → (D ≤ deepest) × Good D l
-sound-is D l e =
+pub good-at-is : (D : ℕ) (l : List ℕ) → goodAt D l ≡ true → (D ≤ deepest) × Good D l
+good-at-is D l e =
     let (p, q) = both-true (leb D deepest) (faultless D l (length l)) e in
     (leb-true D deepest p, faultless-iff-good D l .0 (faultless-is D l (length l) q))
 

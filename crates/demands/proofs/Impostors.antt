@@ -30,18 +30,16 @@ use Rattle.sets.proofs.SetLaws.{one-set}
 use Rattle.moves.specs.Moves.{MoveOf}
 use Rattle.moves.proofs.MoveLaws.{one-move}
 use Rattle.demands.specs.Laws.{move, Succeeds, wrote, TwoMoves, Distributes, KeepsVolume, VolumesAddUp}
+use Rattle.demands.specs.Examples.{r057, r0, east, north}
 use Rattle.demands.specs.Impostors.{firstList, secondList, alongX}
-use Rattle.demands.proofs.Outcomes.{Left, combine-succeeds}
+use Rattle.demands.proofs.Outcomes.{Left, numberOf, combine-succeeds}
 use Rattle.demands.proofs.Moves.{two-moves}
 use Rattle.demands.proofs.Distributes.{distributes}
 use Rattle.demands.proofs.Volumes.{keeps-volume, add-up}
-use Rattle.demands.proofs.Named.{a, b, made, twice, room, r057, r0, north, east, seven, right-made, right-twice, right-crowded, right-far, right-near, right-still, right-seven, right-check, right-check-none, right-volume, right-volume-none}
+use Rattle.demands.proofs.Named.{a, b, made, twice, room, seven, right-made, right-twice, right-crowded, right-far, right-near, right-still, right-seven, right-check, right-check-none, right-volume, right-volume-none}
 
-abbrev number : Left → ℕ
-number t = t .0 .number
-
-abbrev place : Left → ℕ
-place t = t .0 .place
+abbrev placeOf : Left → ℕ
+placeOf t = t .0 .place
 
 -- the list of r0 and r2
 abbrev r0-r2 : List ℕ
@@ -54,10 +52,10 @@ front t = getD (t .1) 0 0
 -- ---- one that rejects everything
 
 pub rejects-set : (op : Op) (r : Answer) (o : List ℕ) → (Succeeds r → ⊥) → SetOf op 1 a b room r o → ⊥
-rejects-set op r o refused h = refused (ap number (one-set op 1 a b room (r, o) _ h (right-made op)))
+rejects-set op r o refused h = refused (ap numberOf (one-set op 1 a b room (r, o) _ h (right-made op)))
 
-pub rejects-move : (r : Answer) (o : List ℕ) → (Succeeds r → ⊥) → MoveOf 3 r057 (north 5) room r o → ⊥
-rejects-move r o refused h = refused (ap number (one-move 3 r057 (north 5) room (r, o) _ h right-far))
+pub rejects-move : (r : Answer) (o : List ℕ) → (Succeeds r → ⊥) → MoveOf 3 r057 (north (pos 5)) room r o → ⊥
+rejects-move r o refused h = refused (ap numberOf (one-move 3 r057 (north (pos 5)) room (r, o) _ h right-far))
 
 pub rejects-volume : (r : Answer) → (Succeeds r → ⊥) → VolumeOf 3 r057 r → ⊥
 rejects-volume r refused h = refused (ap (λ (s : Answer). s .number) (one-volume 3 r057 r _ h right-volume))
@@ -87,16 +85,16 @@ rejects-met = met-fails
 -- ---- one that hands out a fixed list, or a fixed answer: no one answer fits two inputs
 
 pub fixed-set : (op : Op) (r : Answer) (o : List ℕ) → SetOf op 1 a b room r o → SetOf op 1 b b room r o → ⊥
-fixed-set op r o h k = differ op (ap place (sym (one-set op 1 a b room (r, o) _ h (right-made op)) ∙ one-set op 1 b b room (r, o) _ k (right-twice op)))
+fixed-set op r o h k = differ op (ap placeOf (sym (one-set op 1 a b room (r, o) _ h (right-made op)) ∙ one-set op 1 b b room (r, o) _ k (right-twice op)))
   where
     differ : (op : Op) → length (made op) ≡ length (twice op) → ⊥
     differ Join e = omega arith
     differ Intersect e = omega arith
     differ Subtract e = omega arith
 
-pub fixed-move : (r : Answer) (o : List ℕ) → MoveOf 3 r057 (north 5) room r o → MoveOf 3 r057 (north 1) room r o → ⊥
+pub fixed-move : (r : Answer) (o : List ℕ) → MoveOf 3 r057 (north (pos 5)) room r o → MoveOf 3 r057 (north (pos 1)) room r o → ⊥
 fixed-move r o h k =
-    let e : _≡_ {A = ℕ} 701 573 = ap front (sym (one-move 3 r057 (north 5) room (r, o) _ h right-far) ∙ one-move 3 r057 (north 1) room (r, o) _ k right-near) in
+    let e : _≡_ {A = ℕ} 701 573 = ap front (sym (one-move 3 r057 (north (pos 5)) room (r, o) _ h right-far) ∙ one-move 3 r057 (north (pos 1)) room (r, o) _ k right-near) in
     omega arith
 
 pub fixed-volume : (r : Answer) → VolumeOf 3 r057 r → VolumeOf 3 [] r → ⊥
@@ -115,8 +113,8 @@ silent-set op r h = differ op (ap front (one-set op 1 a b room (r, room) _ h (ri
     differ Intersect e = omega arith
     differ Subtract e = omega arith
 
-pub silent-move : (r : Answer) → MoveOf 3 r057 (north 5) room r room → ⊥
-silent-move r h = let e : _≡_ {A = ℕ} 5 701 = ap front (one-move 3 r057 (north 5) room (r, room) _ h right-far) in omega arith
+pub silent-move : (r : Answer) → MoveOf 3 r057 (north (pos 5)) room r room → ⊥
+silent-move r h = let e : _≡_ {A = ℕ} 5 701 = ap front (one-move 3 r057 (north (pos 5)) room (r, room) _ h right-far) in omega arith
 
 -- ---- an invented volume, leaf count or needed room
 
@@ -127,16 +125,16 @@ pub invented-count : (n : ℕ) → (n ≡ 1 → ⊥) → CheckOf 3 r057 (given n
 invented-count n other h = other (ap (λ (s : Answer). s .place) (one-check 3 r057 _ _ h right-check))
 
 pub invented-count-set : (op : Op) (n : ℕ) (o : List ℕ) → (n ≡ length (made op) → ⊥) → SetOf op 1 a b room (given n) o → ⊥
-invented-count-set op n o other h = other (ap place (one-set op 1 a b room (given n, o) _ h (right-made op)))
+invented-count-set op n o other h = other (ap placeOf (one-set op 1 a b room (given n, o) _ h (right-made op)))
 
-pub invented-count-move : (n : ℕ) (o : List ℕ) → (n ≡ 1 → ⊥) → MoveOf 3 r057 (north 5) room (given n) o → ⊥
-invented-count-move n o other h = other (ap place (one-move 3 r057 (north 5) room (given n, o) _ h right-far))
+pub invented-count-move : (n : ℕ) (o : List ℕ) → (n ≡ 1 → ⊥) → MoveOf 3 r057 (north (pos 5)) room (given n) o → ⊥
+invented-count-move n o other h = other (ap placeOf (one-move 3 r057 (north (pos 5)) room (given n, o) _ h right-far))
 
 pub invented-room-set : (op : Op) (n : ℕ) (o : List ℕ) → (n ≡ length (made op) → ⊥) → SetOf op 1 a b [] (answer 8 n 0) o → ⊥
-invented-room-set op n o other h = other (ap place (one-set op 1 a b [] (answer 8 n 0, o) _ h (right-crowded op)))
+invented-room-set op n o other h = other (ap placeOf (one-set op 1 a b [] (answer 8 n 0, o) _ h (right-crowded op)))
 
-pub invented-room-move : (n : ℕ) (o : List ℕ) → (n ≡ 8 → ⊥) → MoveOf 2 r0 east seven (answer 8 n 0) o → ⊥
-invented-room-move n o other h = other (ap place (one-move 2 r0 east seven (answer 8 n 0, o) _ h right-seven))
+pub invented-room-move : (n : ℕ) (o : List ℕ) → (n ≡ 8 → ⊥) → MoveOf 2 r0 (east (pos 1)) seven (answer 8 n 0) o → ⊥
+invented-room-move n o other h = other (ap placeOf (one-move 2 r0 (east (pos 1)) seven (answer 8 n 0, o) _ h right-seven))
 
 -- ---- one that moves along x and skips y and z: it keeps the laws of demand 3, and what it leaves does not fit the move
 
@@ -147,7 +145,7 @@ along-x = (
   λ op D l m d. distributes op D l m (axes (d 0) (pos 0) (pos 0)),
   λ D l d. keeps-volume D l (axes (d 0) (pos 0) (pos 0)),
   λ r o h k.
-      let e : _≡_ {A = ℕ} 559 701 = ap front (sym (one-move 3 r057 (north 0) room (r, o) _ h right-still) ∙ one-move 3 r057 (north 5) room (r, o) _ k right-far) in
+      let e : _≡_ {A = ℕ} 559 701 = ap front (sym (one-move 3 r057 (north (pos 0)) room (r, o) _ h right-still) ∙ one-move 3 r057 (north (pos 5)) room (r, o) _ k right-far) in
       omega arith,
 )
 
@@ -162,13 +160,13 @@ first-and-second = (
       ap₂ (λ (s t : List ℕ). blacks D s + blacks D t) (one-list D _ j l x (list-of-itself D l gl)) (one-list D _ i m y (list-of-itself D m gm))),
   λ r o h k.
       let e = one-set Join 1 a b room (r, o) _ k (right-made Join) in
-      let x = combine-succeeds (λ A B. A) 1 a b room o r h (ap number e) in
+      let x = combine-succeeds (λ A B. A) 1 a b room o r h (ap numberOf e) in
       let same : wrote r o ≡ a = one-list 1 _ _ a (x .gives .list) (list-of-itself 1 a (x .good-first)) in
       let f : _≡_ {A = ℕ} 3 2 = ap length (sym (ap (λ (t : Left). wrote (t .0) (t .1)) e) ∙ same) in
       omega arith,
   λ r o h k.
       let e = one-set Intersect 1 a b room (r, o) _ k (right-made Intersect) in
-      let x = combine-succeeds (λ A B. B) 1 a b room o r h (ap number e) in
+      let x = combine-succeeds (λ A B. B) 1 a b room o r h (ap numberOf e) in
       let same : wrote r o ≡ b = one-list 1 _ _ b (x .gives .list) (list-of-itself 1 b (x .good-second)) in
       let f : _≡_ {A = ℕ} 1 2 = ap length (sym (ap (λ (t : Left). wrote (t .0) (t .1)) e) ∙ same) in
       omega arith,

@@ -21,12 +21,12 @@ use Rattle.sets.specs.Inner.{both}
 use Rattle.sets.specs.Sets.{SetOf}
 use Rattle.metres.proofs.Rounding.{rounded}
 use Rattle.metres.specs.declared.Move.{Move}
-use Rattle.metres.specs.declared.Move.the-variants.{Voxels, Metres}
+use Rattle.metres.specs.declared.Move.the-variants.{Metres}
 use Rattle.shifts.specs.LabelSums.{sumLabel, carryLabel}
 use Rattle.shifts.specs.Shift.{shift, shifted}
 use Rattle.moves.specs.Inner.{keepsAlong, leafKeeps, turned, back}
 use Rattle.moves.specs.Moves.{MoveOf}
-use Rattle.demands.specs.Examples.{Row, moves, makes, checks, measures, Fits, All}
+use Rattle.demands.specs.Examples.{Row, moves, makes, checks, measures, Fits, All, r057, r0, east, north}
 use Rattle.demands.proofs.Worked.{allWork, all-fit}
 
 -- ---- the inputs
@@ -53,19 +53,6 @@ twice Subtract = []
 abbrev pub room : List ℕ
 room = 5 ∷ 5 ∷ 5 ∷ []
 
--- depth 3, r057, to the north; depth 2, r0, to the east
-abbrev pub r057 : List ℕ
-r057 = 559 ∷ []
-
-abbrev pub r0 : List ℕ
-r0 = 8 ∷ []
-
-abbrev pub north : ℕ → Move
-north n = Voxels (pos 0) (pos n) (pos 0)
-
-abbrev pub east : Move
-east = Voxels (pos 1) (pos 0) (pos 0)
-
 abbrev pub seven : List ℕ
 seven = 5 ∷ 5 ∷ 5 ∷ 5 ∷ room
 
@@ -85,10 +72,10 @@ of-op f rows = f Join ∷ f Intersect ∷ f Subtract ∷ rows
 
 abbrev named : List Row
 named =
-    moves 3 r057 (north 5) 3 (given 1) (701 ∷ [])
-    ∷ moves 3 r057 (north 1) 3 (given 1) (573 ∷ [])
-    ∷ moves 3 r057 (north 0) 3 (given 1) r057
-    ∷ moves 2 r0 east 7 (answer 8 8 0) []
+    moves 3 r057 (north (pos 5)) 3 (given 1) (701 ∷ [])
+    ∷ moves 3 r057 (north (pos 1)) 3 (given 1) (573 ∷ [])
+    ∷ moves 3 r057 (north (pos 0)) 3 (given 1) r057
+    ∷ moves 2 r0 (east (pos 1)) 7 (answer 8 8 0) []
     ∷ checks 3 r057 (given 1)
     ∷ checks 3 [] (given 0)
     ∷ measures 3 r057 (given 1)
@@ -104,16 +91,16 @@ right = all-fit named named-work
 
 -- ---- the same, by the call
 
-pub right-far : MoveOf 3 r057 (north 5) room (given 1) (701 ∷ 5 ∷ 5 ∷ [])
+pub right-far : MoveOf 3 r057 (north (pos 5)) room (given 1) (701 ∷ 5 ∷ 5 ∷ [])
 right-far = right .0 room refl
 
-pub right-near : MoveOf 3 r057 (north 1) room (given 1) (573 ∷ 5 ∷ 5 ∷ [])
+pub right-near : MoveOf 3 r057 (north (pos 1)) room (given 1) (573 ∷ 5 ∷ 5 ∷ [])
 right-near = right .1 .0 room refl
 
-pub right-still : MoveOf 3 r057 (north 0) room (given 1) (559 ∷ 5 ∷ 5 ∷ [])
+pub right-still : MoveOf 3 r057 (north (pos 0)) room (given 1) (559 ∷ 5 ∷ 5 ∷ [])
 right-still = right .1 .1 .0 room refl
 
-pub right-seven : MoveOf 2 r0 east seven (answer 8 8 0) seven
+pub right-seven : MoveOf 2 r0 (east (pos 1)) seven (answer 8 8 0) seven
 right-seven = right .1 .1 .1 .0 seven refl
 
 pub right-check : CheckOf 3 r057 (given 1)

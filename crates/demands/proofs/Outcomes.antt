@@ -27,8 +27,8 @@ use Rattle.demands.specs.Impostors.{Combines}
 abbrev pub Left : Type 0
 Left = Answer × List ℕ
 
-abbrev number : Left → ℕ
-number t = t .0 .number
+abbrev pub numberOf : Left → ℕ
+numberOf t = t .0 .number
 
 -- ---- the test of the depth
 
@@ -50,15 +50,15 @@ pub record Gives (D : ℕ) (Q : ℕ → Type 0) (r : Answer) (o : List ℕ) : Ty
 
 module _ (D : ℕ) (Q : ℕ → Type 0) (o o' : List ℕ) (r : Answer) where
   pub told-gives : WritesListOf D Q o (r, o') → Roomy r → Gives D Q r o'
-  told-gives (l, x, inl (a, (_, e), f)) room = absurd (room (ap number f ∙ ap (λ (t : Answer). t .number) e))
+  told-gives (l, x, inl (a, (_, e), f)) room = absurd (room (ap numberOf f ∙ ap (λ (t : Answer). t .number) e))
   told-gives (l, x, inr (_, e)) room =
       let same : wrote r o' ≡ l = ap (λ (t : Left). wrote (t .0) (t .1)) e ∙ take-append-seam l (drop (length l) o) in
       record { is-answer = ap (λ (t : Left). t .0) e ∙ ap (λ (m : List ℕ). given (length m)) (sym same); list = subst⁻¹ (ListOf D Q) same x }
 
   -- what is told past the tests of a carrier is not 7
   pub told-accepted : WritesListOf D Q o (r, o') → Unaccepted r → ⊥
-  told-accepted (l, x, inl (a, (_, e), f)) z = let g : _≡_ {A = ℕ} 8 7 = sym (ap number f ∙ ap (λ (t : Answer). t .number) e) ∙ z in omega arith
-  told-accepted (l, x, inr (_, e)) z = let g : _≡_ {A = ℕ} 0 7 = sym (ap number e) ∙ z in omega arith
+  told-accepted (l, x, inl (a, (_, e), f)) z = let g : _≡_ {A = ℕ} 8 7 = sym (ap numberOf f ∙ ap (λ (t : Answer). t .number) e) ∙ z in omega arith
+  told-accepted (l, x, inr (_, e)) z = let g : _≡_ {A = ℕ} 0 7 = sym (ap numberOf e) ∙ z in omega arith
 
   pub gives-success : Gives D Q r o' → Succeeds r
   gives-success g = ap (λ (t : Answer). t .number) (g .is-answer)
@@ -105,7 +105,7 @@ module _ (D : ℕ) (l : List ℕ) (d : ℕ → ℤ) (o o' : List ℕ) (r : Answe
 
   shift-outcome : Good D l → ShiftOf D l (displacement d) o (r, o') → Outcome D l R o o' r
   shift-outcome g (inl (a, (i, F, e), f)) =
-      inl (ap number f ∙ ap (λ (t : Answer). t .number) e, λ ok. accepted-exactly D (displacement d) l (g .ordered) .1 ok a (i, F, e))
+      inl (ap numberOf f ∙ ap (λ (t : Answer). t .number) e, λ ok. accepted-exactly D (displacement d) l (g .ordered) .1 ok a (i, F, e))
   shift-outcome g (inr (none, t)) = inr (accepted-exactly D (displacement d) l (g .ordered) .0 none, t)
 
   move-outcome : D ≤ deepest → Good D l → move D l d o r o' → Outcome D l R o o' r
@@ -114,8 +114,8 @@ module _ (D : ℕ) (l : List ℕ) (d : ℕ → ℤ) (o o' : List ℕ) (r : Answe
   move-outcome h g (inr (_, inr (_, (i, j, k, same, t)))) = shift-outcome g (rw (same 0 (omega arith), same 1 (omega arith), same 2 (omega arith)) at t)
 
   move-succeeds : move D l d o r o' → Succeeds r → Moved D l R o o' r
-  move-succeeds (inl (a, t, e)) z = absurd (deep-refused D a t (ap number (sym e) ∙ z))
-  move-succeeds (inr (_, inl (a, t, e))) z = absurd (faulty-numbered D l 1 a t (ap number (sym e) ∙ z))
+  move-succeeds (inl (a, t, e)) z = absurd (deep-refused D a t (ap numberOf (sym e) ∙ z))
+  move-succeeds (inr (_, inl (a, t, e))) z = absurd (faulty-numbered D l 1 a t (ap numberOf (sym e) ∙ z))
   move-succeeds (inr (deep, inr (clean, m))) z =
       let h = shallow D deep in
       let g = not-faulty D l 1 clean in
@@ -127,12 +127,12 @@ move-carries = record { carrying = λ D d. displacing D (displacement d); outcom
 -- ---- a call that makes one list of two
 
 -- the voxels of its result
-abbrev pub Of : (Type 0 → Type 0 → Type 0) → ℕ → List ℕ → List ℕ → ℕ → Type 0
-Of T D a b v = T (black D a v ≡ true) (black D b v ≡ true)
+abbrev pub Resulting : (Type 0 → Type 0 → Type 0) → ℕ → List ℕ → List ℕ → ℕ → Type 0
+Resulting T D a b v = T (black D a v ≡ true) (black D b v ≡ true)
 
 module _ (T : Type 0 → Type 0 → Type 0) (D : ℕ) (a b o o' : List ℕ) (r : Answer) where
   -- on good lists
-  pub combine-told : D ≤ deepest → Good D a → Good D b → Combines T D a b o r o' → WritesListOf D (Of T D a b) o (r, o')
+  pub combine-told : D ≤ deepest → Good D a → Good D b → Combines T D a b o r o' → WritesListOf D (Resulting T D a b) o (r, o')
   combine-told h g k (inl (x, t, _)) = absurd (not-deep D h x t)
   combine-told h g k (inr (_, inl (x, t, _))) = absurd (good-passes D a 1 g x t)
   combine-told h g k (inr (_, inr (_, inl (x, t, _)))) = absurd (good-passes D b 2 k x t)
@@ -143,15 +143,15 @@ module _ (T : Type 0 → Type 0 → Type 0) (D : ℕ) (a b o o' : List ℕ) (r :
     pub depth : D ≤ deepest
     pub good-first : Good D a
     pub good-second : Good D b
-    pub gives : Gives D (Of T D a b) r o'
+    pub gives : Gives D (Resulting T D a b) r o'
 
   pub combine-succeeds : Combines T D a b o r o' → Succeeds r → Combined
-  combine-succeeds (inl (x, t, e)) z = absurd (deep-refused D x t (ap number (sym e) ∙ z))
-  combine-succeeds (inr (_, inl (x, t, e))) z = absurd (faulty-numbered D a 1 x t (ap number (sym e) ∙ z))
-  combine-succeeds (inr (_, inr (_, inl (x, t, e)))) z = absurd (faulty-numbered D b 2 x t (ap number (sym e) ∙ z))
+  combine-succeeds (inl (x, t, e)) z = absurd (deep-refused D x t (ap numberOf (sym e) ∙ z))
+  combine-succeeds (inr (_, inl (x, t, e))) z = absurd (faulty-numbered D a 1 x t (ap numberOf (sym e) ∙ z))
+  combine-succeeds (inr (_, inr (_, inl (x, t, e)))) z = absurd (faulty-numbered D b 2 x t (ap numberOf (sym e) ∙ z))
   combine-succeeds (inr (deep, inr (clean, inr (clean', t)))) z = record {
     depth = shallow D deep;
     good-first = not-faulty D a 1 clean;
     good-second = not-faulty D b 2 clean';
-    gives = told-gives D (Of T D a b) o o' r t (λ e. let f : _≡_ {A = ℕ} 0 8 = sym z ∙ e in omega arith);
+    gives = told-gives D (Resulting T D a b) o o' r t (λ e. let f : _≡_ {A = ℕ} 0 8 = sym z ∙ e in omega arith);
   }

@@ -17,16 +17,17 @@ use Rattle.blocks.proofs.Files.{file-length, file-byte}
 use Rattle.blocks.proofs.CallLaws.{one-check-blocks, one-stored-volume, one-read, one-write}
 use Rattle.blocks.proofs.Theorems.{writes-good, reads-file}
 use Rattle.blocks.proofs.Instances.{block-check-holds, stored-volume-holds, read-holds, write-holds}
+use Rattle.demands.specs.Examples.{r057}
 use Rattle.demands.specs.Laws.{Succeeds}
 use Rattle.demands.proofs.Outcomes.{Left}
-use Rattle.demands.proofs.Named.{r057, right-check-none}
+use Rattle.demands.proofs.Named.{right-check-none}
 
 -- what a reader leaves: its reading, and the buffer afterwards
 abbrev Read : Type 0
 Read = Reading × List ℕ
 
-abbrev two : List ℕ
-two = 7 ∷ 7 ∷ []
+abbrev two-places : List ℕ
+two-places = 7 ∷ 7 ∷ []
 
 abbrev bytes : List ℕ
 bytes = replicate 513 7
@@ -39,8 +40,8 @@ good-none = opening-known (checks 3 []) (given 0) right-check-none refl .good
 pub rejects-write : (r : Answer) (o : List ℕ) → (Succeeds r → ⊥) → WriteOf 3 r057 bytes r o → ⊥
 rejects-write r o refused h = refused (ap (λ (t : Left). t .0 .number) (one-write 3 r057 bytes (r, o) (given 512, fileOf 3 r057 ++ (7 ∷ [])) h write-holds))
 
-pub rejects-read : (r : Reading) (o : List ℕ) → (Succeeds (r .answer) → ⊥) → ReadOf (fileOf 3 r057) two r o → ⊥
-rejects-read r o refused h = refused (ap (λ (t : Read). t .0 .answer .number) (one-read (fileOf 3 r057) two (r, o) _ h read-holds))
+pub rejects-read : (r : Reading) (o : List ℕ) → (Succeeds (r .answer) → ⊥) → ReadOf (fileOf 3 r057) two-places r o → ⊥
+rejects-read r o refused h = refused (ap (λ (t : Read). t .0 .answer .number) (one-read (fileOf 3 r057) two-places (r, o) _ h read-holds))
 
 pub rejects-block-check : (r : Answer) → (Succeeds r → ⊥) → BlockCheckOf (fileOf 3 r057) r → ⊥
 rejects-block-check r refused h = refused (ap (λ (a : Answer). a .number) (one-check-blocks (fileOf 3 r057) r _ h block-check-holds))
@@ -69,10 +70,10 @@ fixed-write r o h k =
     let q = ap (λ (t : Left). getD (t .1) 12 0) (one-write 3 [] bytes (r, o) (given 512, fileOf 3 [] ++ drop 512 bytes) k none) in
     omega (arith, p, q, one-counted (7 ∷ []), none-counted (drop 512 bytes))
 
-pub fixed-read : (r : Reading) (o : List ℕ) → ReadOf (fileOf 3 r057) two r o → ReadOf (fileOf 3 []) two r o → ⊥
+pub fixed-read : (r : Reading) (o : List ℕ) → ReadOf (fileOf 3 r057) two-places r o → ReadOf (fileOf 3 []) two-places r o → ⊥
 fixed-read r o h k =
-    let p = ap (λ (t : Read). t .0 .answer .place) (one-read (fileOf 3 r057) two (r, o) _ h read-holds) in
-    let q = ap (λ (t : Read). t .0 .answer .place) (one-read (fileOf 3 []) two (r, o) _ k (reads-file 3 [] two (omega arith) good-none (omega arith))) in
+    let p = ap (λ (t : Read). t .0 .answer .place) (one-read (fileOf 3 r057) two-places (r, o) _ h read-holds) in
+    let q = ap (λ (t : Read). t .0 .answer .place) (one-read (fileOf 3 []) two-places (r, o) _ k (reads-file 3 [] two-places (omega arith) good-none (omega arith))) in
     omega arith
 
 -- ---- one that writes nothing, whatever it reports
@@ -82,8 +83,8 @@ silent-write r h =
     let e : 7 ≡ getD (fileOf 3 r057 ++ (7 ∷ [])) 12 0 = ap (λ (t : Left). getD (t .1) 12 0) (one-write 3 r057 bytes (r, bytes) (given 512, fileOf 3 r057 ++ (7 ∷ [])) h write-holds) in
     omega (arith, one-counted (7 ∷ []))
 
-pub silent-read : (r : Reading) → ReadOf (fileOf 3 r057) two r two → ⊥
-silent-read r h = let e : _≡_ {A = ℕ} 7 559 = ap (λ (t : Read). getD (t .1) 0 0) (one-read (fileOf 3 r057) two (r, two) _ h read-holds) in omega arith
+pub silent-read : (r : Reading) → ReadOf (fileOf 3 r057) two-places r two-places → ⊥
+silent-read r h = let e : _≡_ {A = ℕ} 7 559 = ap (λ (t : Read). getD (t .1) 0 0) (one-read (fileOf 3 r057) two-places (r, two-places) _ h read-holds) in omega arith
 
 -- ---- an invented volume, leaf count or byte count
 

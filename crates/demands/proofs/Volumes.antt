@@ -19,7 +19,7 @@ use Rattle.sets.specs.Inner.{both}
 use Rattle.sets.proofs.Pieces.{exactly}
 use Rattle.demands.specs.Laws.{Carrier, move, wrote, KeepsVolume, VolumesAddUp}
 use Rattle.demands.specs.Impostors.{Combines}
-use Rattle.demands.proofs.Outcomes.{not-deep, Moved, Carries, move-carries, Of, Combined, combine-succeeds}
+use Rattle.demands.proofs.Outcomes.{not-deep, Moved, Carries, move-carries, Resulting, Combined, combine-succeeds}
 
 -- ---- the volume call on a good list
 
@@ -45,7 +45,7 @@ keeps-volume = carrier-keeps-volume move-carries
 
 -- Where the list j of the voxels that T takes and the list i of those that U takes have as many black voxels as the lists a and b, volumes add up.
 pub add-up : (T U : Type 0 → Type 0 → Type 0)
-    → ((D : ℕ) (a b j i : List ℕ) → Good D a → Good D b → ListOf D (Of T D a b) j → ListOf D (Of U D a b) i → blacks D j + blacks D i ≡ blacks D a + blacks D b)
+    → ((D : ℕ) (a b j i : List ℕ) → Good D a → Good D b → ListOf D (Resulting T D a b) j → ListOf D (Resulting U D a b) i → blacks D j + blacks D i ≡ blacks D a + blacks D b)
     → VolumesAddUp (Combines T) (Combines U)
 add-up T U sums D a b o o' r joined z p p' s met z' v w j i of-a of-b of-j of-i =
     let x : Combined T D a b o o' r = combine-succeeds T D a b o o' r joined z in

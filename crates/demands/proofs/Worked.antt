@@ -36,20 +36,20 @@ use Rattle.sets.specs.Sets.{InResult, SetOf}
 use Rattle.sets.proofs.Pieces.{exactly}
 use Rattle.demands.specs.Examples.{Row, moves, makes, checks, measures, steps, becomes, Fits, All}
 use Rattle.demands.proofs.Outcomes.{not-deep}
-use Rattle.demands.proofs.Agreement.{sameAnswer, same-answer, agrees, faultless, faultless-is, sound, sound-is, roomed, told-roomed}
-use Rattle.demands.proofs.WorkedMoves.{whole, movesWell, moves-fits, isTaken, becomes-fits}
+use Rattle.demands.proofs.Agreement.{sameAnswer, same-answer, agrees, faultless, faultless-is, goodAt, good-at-is, roomed, told-roomed}
+use Rattle.demands.proofs.WorkedMoves.{inVoxels, movesWell, moves-fits, isTaken, becomes-fits}
 
 -- ---- join, intersection and difference
 
 abbrev makesWell : Op → ℕ → List ℕ → List ℕ → ℕ → Answer → List ℕ → Bool
-makesWell op D a b n r w = sound D a && (sound D b && agrees (roomed n (goodList D (both op D a b))) r w)
+makesWell op D a b n r w = goodAt D a && (goodAt D b && agrees (roomed n (goodList D (both op D a b))) r w)
 
 makes-fits : (op : Op) (D : ℕ) (a b o : List ℕ) (r : Answer) (w : List ℕ) → makesWell op D a b (length o) r w ≡ true → SetOf op D a b o r (stands w o)
 makes-fits op D a b o r w e =
-    let (p, f) = both-true (sound D a) (sound D b && agrees (roomed (length o) (goodList D (both op D a b))) r w) e in
-    let (q, g) = both-true (sound D b) (agrees (roomed (length o) (goodList D (both op D a b))) r w) f in
-    let (h, ga) = sound-is D a p in
-    let (_, gb) = sound-is D b q in
+    let (p, f) = both-true (goodAt D a) (goodAt D b && agrees (roomed (length o) (goodList D (both op D a b))) r w) e in
+    let (q, g) = both-true (goodAt D b) (agrees (roomed (length o) (goodList D (both op D a b))) r w) f in
+    let (h, ga) = good-at-is D a p in
+    let (_, gb) = good-at-is D b q in
     let x : ListOf D (InResult op D a b) (goodList D (both op D a b)) = list-same D _ _ _ (exactly op D a b) (good-list D (both op D a b)) in
     inr (not-deep D h, inr (good-passes D a 1 ga, inr (good-passes D b 2 gb, told-roomed D _ o _ x r w g)))
 
@@ -121,20 +121,20 @@ checks-fits D l r e =
 -- ---- a row
 
 abbrev works : Row → Bool
-works (moves D l m n r w) = sound D l && movesWell (whole m) D l n r w
+works (moves D l m n r w) = goodAt D l && movesWell (inVoxels m) D l n r w
 works (makes op D a b n r w) = makesWell op D a b n r w
 works (checks D l r) = checksWell D l r
-works (measures D l r) = sound D l && sameAnswer (given (count (black D l) (8 ^ D))) r
+works (measures D l r) = goodAt D l && sameAnswer (given (count (black D l) (8 ^ D))) r
 works (steps D c dx dy dz r) = stepsWell D c (axes dx dy dz) r
-works (becomes m i j k) = isTaken (whole m) i j k
+works (becomes m i j k) = isTaken (inVoxels m) i j k
 
 pub fits : (x : Row) → works x ≡ true → Fits x
 fits (moves D l m n r w) e = λ o h. moves-fits D l m o r w (rw h e)
 fits (makes op D a b n r w) e = λ o h. makes-fits op D a b o r w (rw h e)
 fits (checks D l r) e = checks-fits D l r e
 fits (measures D l r) e =
-    let (p, a) = both-true (sound D l) (sameAnswer (given (count (black D l) (8 ^ D))) r) e in
-    let (h, g) = sound-is D l p in
+    let (p, a) = both-true (goodAt D l) (sameAnswer (given (count (black D l) (8 ^ D))) r) e in
+    let (h, g) = good-at-is D l p in
     inr (not-deep D h, inr (good-passes D l 1 g, sym (same-answer (given (count (black D l) (8 ^ D))) r a)))
 fits (steps D c dx dy dz r) e = steps-fits D c (axes dx dy dz) r e
 fits (becomes m i j k) e = becomes-fits m i j k e

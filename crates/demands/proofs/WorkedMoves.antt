@@ -33,22 +33,22 @@ use Rattle.moves.specs.Moves.{ShiftOf, ByVoxels, MoveOf}
 use Rattle.moves.proofs.Acceptance.{splitOf}
 use Rattle.moves.proofs.MoveLaws.{move-of, stay, stays-accepted, moved-list, strays-told, room-told}
 use Rattle.demands.proofs.Outcomes.{Left}
-use Rattle.demands.proofs.Agreement.{agrees, agrees-is, leaving, sound, sound-is, roomed, told-roomed}
+use Rattle.demands.proofs.Agreement.{agrees, agrees-is, leaving, goodAt, good-at-is, roomed, told-roomed}
 
 -- ---- the whole voxels that a move becomes
 
-abbrev pub edge : Bool → Metres → Taken
-edge true d = together (rounded (d .s) (d .x)) (rounded (d .s) (d .y)) (rounded (d .s) (d .z))
-edge false d = TakenV.Bad 3
+abbrev pub edged : Bool → Metres → Taken
+edged true d = together (rounded (d .s) (d .x)) (rounded (d .s) (d .y)) (rounded (d .s) (d .z))
+edged false d = TakenV.Bad 3
 
-abbrev pub whole : Move → Taken
-whole (MoveV.Voxels i j k) = TakenV.Voxels i j k
-whole (MoveV.Metres d) = edge (leb (d .s) finest) d
+abbrev pub inVoxels : Move → Taken
+inVoxels (MoveV.Voxels i j k) = TakenV.Voxels i j k
+inVoxels (MoveV.Metres d) = edged (leb (d .s) finest) d
 
-edge-is : (d : Metres) → TakenOf d (edge (leb (d .s) finest) d)
-edge-is d = go (leb (d .s) finest) refl
+edged-is : (d : Metres) → TakenOf d (edged (leb (d .s) finest) d)
+edged-is d = go (leb (d .s) finest) refl
   where
-    go : (t : Bool) → leb (d .s) finest ≡ t → TakenOf d (edge t d)
+    go : (t : Bool) → leb (d .s) finest ≡ t → TakenOf d (edged t d)
     go true h = together-taken d (leb-true _ _ h) _ _ _ (rounded-exists (d .s) (d .x)) (rounded-exists (d .s) (d .y)) (rounded-exists (d .s) (d .z))
     go false h = inl (_, (leb-false _ _ h, refl), refl)
 
@@ -87,14 +87,14 @@ metres-fit D l d o r w g (TakenV.Bad p) x e = subst (λ (t : Left). Past D l (Mo
 metres-fit D l d o r w g (TakenV.Voxels i j k) x e =
     whole-decides (keeping o) (ByVoxels D l (MoveV.Metres d) o) d i j k (leaving o (r, w)) x (λ b. (i, j, k, b, shifts-fits D l (axes i j k) g o r w (stay D l (axes i j k) (length l)) refl e))
 
-past-fits : (D : ℕ) (l : List ℕ) (m : Move) (o : List ℕ) (r : Answer) (w : List ℕ) → Good D l → movesWell (whole m) D l (length o) r w ≡ true → Past D l m o (leaving o (r, w))
+past-fits : (D : ℕ) (l : List ℕ) (m : Move) (o : List ℕ) (r : Answer) (w : List ℕ) → Good D l → movesWell (inVoxels m) D l (length o) r w ≡ true → Past D l m o (leaving o (r, w))
 past-fits D l (MoveV.Voxels i j k) o r w g e = (i, j, k, each-axis _ refl refl refl, shifts-fits D l (axes i j k) g o r w (stay D l (axes i j k) (length l)) refl e)
-past-fits D l (MoveV.Metres d) o r w g e = metres-fit D l d o r w g (edge (leb (d .s) finest) d) (edge-is d) e
+past-fits D l (MoveV.Metres d) o r w g e = metres-fit D l d o r w g (edged (leb (d .s) finest) d) (edged-is d) e
 
-pub moves-fits : (D : ℕ) (l : List ℕ) (m : Move) (o : List ℕ) (r : Answer) (w : List ℕ) → (sound D l && movesWell (whole m) D l (length o) r w) ≡ true → MoveOf D l m o r (stands w o)
+pub moves-fits : (D : ℕ) (l : List ℕ) (m : Move) (o : List ℕ) (r : Answer) (w : List ℕ) → (goodAt D l && movesWell (inVoxels m) D l (length o) r w) ≡ true → MoveOf D l m o r (stands w o)
 moves-fits D l m o r w e =
-    let (p, f) = both-true (sound D l) (movesWell (whole m) D l (length o) r w) e in
-    let (h, g) = sound-is D l p in
+    let (p, f) = both-true (goodAt D l) (movesWell (inVoxels m) D l (length o) r w) e in
+    let (h, g) = good-at-is D l p in
     move-of D l m o r (stands w o) h g (past-fits D l m o r w g f)
 
 -- ---- the whole voxels of a move, as a test
@@ -130,9 +130,9 @@ metres-become d i j k (TakenV.Voxels a b c) x e =
     let (q, r) = both-true (isWhole b j) (isWhole c k) f in
     rw (← whole-same a i p, ← whole-same b j q, ← whole-same c k r) (taken-becomes d a b c x)
 
-pub becomes-fits : (m : Move) (i j k : ℤ) → isTaken (whole m) i j k ≡ true → Becomes m (axes i j k)
+pub becomes-fits : (m : Move) (i j k : ℤ) → isTaken (inVoxels m) i j k ≡ true → Becomes m (axes i j k)
 becomes-fits (MoveV.Voxels a b c) i j k e =
     let (p, f) = both-true (isWhole a i) (isWhole b j && isWhole c k) e in
     let (q, r) = both-true (isWhole b j) (isWhole c k) f in
     each-axis _ (sym (whole-same a i p)) (sym (whole-same b j q)) (sym (whole-same c k r))
-becomes-fits (MoveV.Metres d) i j k e = metres-become d i j k (edge (leb (d .s) finest) d) (edge-is d) e
+becomes-fits (MoveV.Metres d) i j k e = metres-become d i j k (edged (leb (d .s) finest) d) (edged-is d) e

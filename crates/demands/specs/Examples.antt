@@ -48,13 +48,13 @@ All F (x ∷ rows) = F x × All F rows
 
 -- ---- the table
 
-abbrev r057 : List ℕ
+abbrev pub r057 : List ℕ
 r057 = 559 ∷ []
 
 abbrev r275 : List ℕ
 r275 = 701 ∷ []
 
-abbrev r0 : List ℕ
+abbrev pub r0 : List ℕ
 r0 = 8 ∷ []
 
 abbrev root : List ℕ
@@ -68,10 +68,10 @@ face = 65 ∷ 67 ∷ 69 ∷ 71 ∷ 72 ∷ 74 ∷ 76 ∷ 78 ∷ []
 abbrev rest : List ℕ
 rest = 64 ∷ 65 ∷ 66 ∷ 67 ∷ 68 ∷ 552 ∷ 553 ∷ 554 ∷ 555 ∷ 556 ∷ 557 ∷ 558 ∷ 70 ∷ 71 ∷ 9 ∷ 10 ∷ 11 ∷ 12 ∷ 13 ∷ 14 ∷ 15 ∷ []
 
-abbrev east : ℤ → Move
+abbrev pub east : ℤ → Move
 east d = Voxels d (pos 0) (pos 0)
 
-abbrev north : ℤ → Move
+abbrev pub north : ℤ → Move
 north d = Voxels (pos 0) d (pos 0)
 
 -- 0.0625, -0.0625 and 0.1875 metres, in voxels of an eighth of a metre

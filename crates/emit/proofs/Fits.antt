@@ -8,7 +8,7 @@ use native.Mathlib.Omega.{arith}
 use Rattle.cells.specs.Cell.{proper, span, start, holds}
 use Rattle.cells.proofs.Power.{le-or-lt, pow8-pos, pow8-le-inv, pow8-split}
 use Rattle.cells.proofs.Cells.{cell-of, start-multiple, within}
-use Rattle.records.proofs.Lists.{held}
+use Rattle.records.proofs.Lists.{holds-between}
 use Rattle.records.proofs.Parents.{first-child}
 use Rattle.emit.specs.Inner.{Fit}
 
@@ -46,4 +46,4 @@ module _ (D p to w : ℕ) (root : to ≤ 8 ^ D) (f : Fit p to w) where
       let wide : span D q ≡ 8 * w = y .is-span ∙ ap (λ (n : ℕ). 8 * n) (x .is-span) in
       let even : p ≡ m * (8 * w) = sym at ∙ s ∙ ap (λ (n : ℕ). m * n) wide in
       let far : to < p + 8 * w = ⊎-elim (λ (g : p + 8 * w ≤ to). absurd (f .most m even g)) (λ g. g) (le-or-lt (p + 8 * w) to) in
-      (omega (arith, within D q (y .is-proper)), held D q to (omega (arith, f .fits)) (omega arith))
+      (omega (arith, within D q (y .is-proper)), holds-between D q to (omega (arith, f .fits)) (omega arith))

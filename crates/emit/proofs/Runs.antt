@@ -11,7 +11,7 @@ use Rattle.cells.specs.Cell.{holds}
 use Rattle.cells.proofs.Power.{le-or-lt}
 use Rattle.records.specs.Record.{black, Ordered}
 use Rattle.records.specs.Inner.{White}
-use Rattle.records.proofs.Lists.{held, before-cell, after-cell, black-held, black-past}
+use Rattle.records.proofs.Lists.{holds-between, before-cell, after-cell, black-held, black-past}
 use Rattle.records.proofs.Leaves.{black-append, ordered-snoc}
 use Rattle.records.proofs.Parents.{capped-condensed}
 use Rattle.records.proofs.Writing.{sets-append}
@@ -86,7 +86,7 @@ module _ (D : ℕ) (P : ℕ → Bool) (o : List ℕ) where
 
       colour : (v : ℕ) → (p ≤ v) ⊎ (v < p) → v < p + w → (black D l v || black D (c ∷ []) v) ≡ P v
       colour v (inl h) g =
-          rw (k .above v h, black-held D c [] v (held D c v (omega (arith, x .is-start)) (omega (arith, x .is-start, x .is-span))))
+          rw (k .above v h, black-held D c [] v (holds-between D c v (omega (arith, x .is-start)) (omega (arith, x .is-start, x .is-span))))
           (sym (e .run v h (omega (arith, f .fits))))
       colour v (inr h) g =
           rw (black-missed D c v (before-cell D c v (omega (arith, x .is-start)))) (or-false (black D l v) ∙ k .below v h)

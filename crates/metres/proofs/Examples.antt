@@ -22,8 +22,8 @@ pub record Example : Type 0 where
   pub n : Coordinate
 
 -- The starred ones come first. The others are the ends of the range and what is rejected, from the rule.
-abbrev pub table : List Example
-table =
+abbrev pub samples : List Example
+samples =
     record { s = 3; bits = 0x3fb0_0000_0000_0000; n = Voxels (pos 1) }  -- 0.0625
     ∷ record { s = 3; bits = 0xbfb0_0000_0000_0000; n = Voxels (pos 0) }  -- -0.0625
     ∷ record { s = 3; bits = 0x3fc8_0000_0000_0000; n = Voxels (pos 2) }  -- 0.1875
@@ -43,40 +43,40 @@ abbrev Computes : List Example → Type 0
 Computes [] = Unit {0}
 Computes (x ∷ l) = (rounded (x .s) (ofBits binary64 (x .bits)) ≡ x .n) × Computes l
 
-computes : Computes table
+computes : Computes samples
 unfolding rounded ofBits
 computes = (refl, (refl, (refl, (refl, (refl, (refl, (refl, (refl, (refl, (refl, (refl, (refl, (refl, tt)))))))))))))
 
 -- n fits, and no other rounded does
-abbrev pub Gives : Example → Type 0
-Gives x = Rounded (x .s) (ofBits binary64 (x .bits)) (x .n) × ((w : Coordinate) → Rounded (x .s) (ofBits binary64 (x .bits)) w → w ≡ x .n)
+abbrev pub RoundsTo : Example → Type 0
+RoundsTo x = Rounded (x .s) (ofBits binary64 (x .bits)) (x .n) × ((w : Coordinate) → Rounded (x .s) (ofBits binary64 (x .bits)) w → w ≡ x .n)
 
 abbrev pub Hold : List Example → Type 0
 Hold [] = Unit {0}
-Hold (x ∷ l) = Gives x × Hold l
+Hold (x ∷ l) = RoundsTo x × Hold l
 
-holds : (l : List Example) → Computes l → Hold l
-holds [] c = tt
-holds (x ∷ l) c =
+all-round : (l : List Example) → Computes l → Hold l
+all-round [] c = tt
+all-round (x ∷ l) c =
     let d = ofBits binary64 (x .bits) in
     let r : Rounded (x .s) d (x .n) = subst (λ (w : Coordinate). Rounded (x .s) d w) (c .0) (rounded-exists (x .s) d) in
-    ((r, λ w h. one-rounded (x .s) d w (x .n) h r), holds l (c .1))
+    ((r, λ w h. one-rounded (x .s) d w (x .n) h r), all-round l (c .1))
 
-pub examples : Hold table
-examples = holds table computes
+pub examples : Hold samples
+examples = all-round samples computes
 
 -- ---- whole moves
 
 -- 0.0625, -0.0625 and 0.1875 metres at the edge number s
-abbrev starred : ℕ → Metres
-starred s = record { x = ofBits binary64 0x3fb0_0000_0000_0000; y = ofBits binary64 0xbfb0_0000_0000_0000; z = ofBits binary64 0x3fc8_0000_0000_0000; s = s }
+abbrev sixteenths : ℕ → Metres
+sixteenths s = record { x = ofBits binary64 0x3fb0_0000_0000_0000; y = ofBits binary64 0xbfb0_0000_0000_0000; z = ofBits binary64 0x3fc8_0000_0000_0000; s = s }
 
-pub taken-holds : TakenOf (starred 3) (TakenV.Voxels (pos 1) (pos 0) (pos 2))
+pub taken-holds : TakenOf (sixteenths 3) (TakenV.Voxels (pos 1) (pos 0) (pos 2))
 taken-holds = together-taken _ (omega arith) (Voxels (pos 1)) (Voxels (pos 0)) (Voxels (pos 2)) (examples .0 .0) (examples .1 .0 .0) (examples .1 .1 .0 .0)
 
-pub taken-fails : TakenOf (starred 3) (TakenV.Voxels (pos 1) (negsuc 0) (pos 2)) → ⊥
-taken-fails h = let e : TakenV.Voxels (pos 1) (negsuc 0) (pos 2) ≡ TakenV.Voxels (pos 1) (pos 0) (pos 2) = one-taken (starred 3) _ _ h taken-holds in let z : _≡_ {A = ℕ} 0 1 = cc in omega arith
+pub taken-fails : TakenOf (sixteenths 3) (TakenV.Voxels (pos 1) (negsuc 0) (pos 2)) → ⊥
+taken-fails h = let e : TakenV.Voxels (pos 1) (negsuc 0) (pos 2) ≡ TakenV.Voxels (pos 1) (pos 0) (pos 2) = one-taken (sixteenths 3) _ _ h taken-holds in let z : _≡_ {A = ℕ} 0 1 = cc in omega arith
 
 -- an edge number above 10 is told before any coordinate
-pub taken-refuses : TakenOf (starred 11) (TakenV.Bad 3)
+pub taken-refuses : TakenOf (sixteenths 11) (TakenV.Bad 3)
 taken-refuses = inl (_, (omega arith, refl), refl)

@@ -50,8 +50,8 @@ module _ (s : ℕ) (t : Bool) (m : ℕ) (e n : ℤ) where
       )
 
 -- ---- at most one
-under : (a b p q p' q' k : ℕ) → Near a b p q k → Near a b p' q' k → p + q' ≤ p' + q
-under a b p q p' q' k h h' =
+not-above : (a b p q p' q' k : ℕ) → Near a b p q k → Near a b p' q' k → p + q' ≤ p' + q
+not-above a b p q p' q' k h h' =
     let l : 2 * (p * k) + 2 * (q' * k) < 2 * (p' * k) + 2 * (q * k) + 2 * k = omega (arith, h .low, h' .high) in
     let m : (p + q') * k < (p' + q + 1) * k = simp (add-mul, one-mul) (omega arith) in
     omega (arith, lt-of-mul-lt-mul-right k m)
@@ -67,8 +67,8 @@ nearest-unique s (fin t m e) n n' h h' =
     same n n'
     (omega (
       arith,
-      under (above a) (below a) (above n) (below n) (above n') (below n') (down e) x y,
-      under (above a) (below a) (above n') (below n') (above n) (below n) (down e) y x,
+      not-above (above a) (below a) (above n) (below n) (above n') (below n') (down e) x y,
+      not-above (above a) (below a) (above n') (below n') (above n) (below n) (down e) y x,
     ))
 
 -- ---- one for each finite coordinate: the size w in half voxels, with or without something over, gives it by the tie rule
@@ -117,10 +117,10 @@ halvesOf s m e = 2 * (m * up e) * 2 ^ s / down e
 abbrev overOf : ℕ → ℕ → ℤ → Bool
 overOf s m e = ltb (halvesOf s m e * down e) (2 * (m * up e) * 2 ^ s)
 
-abbrev pub size : ℕ → Bool → ℕ → ℤ → ℕ
-size s t m e = sizeOf t (halvesOf s m e) (overOf s m e)
+abbrev pub sizeAt : ℕ → Bool → ℕ → ℤ → ℕ
+sizeAt s t m e = sizeOf t (halvesOf s m e) (overOf s m e)
 
-pub nearest-exists : (s : ℕ) (t : Bool) (m : ℕ) (e : ℤ) → Nearest s (fin t m e) (signed t (size s t m e))
+pub nearest-exists : (s : ℕ) (t : Bool) (m : ℕ) (e : ℤ) → Nearest s (fin t m e) (signed t (sizeAt s t m e))
 nearest-exists s t m e =
     let a = 2 * (m * up e) * 2 ^ s in
     let d = div-add-mod' a (down e) in

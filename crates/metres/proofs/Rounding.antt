@@ -15,7 +15,7 @@ use Rattle.metres.specs.declared.inner.Coordinate.the-variants.{Voxels, 
 use Rattle.metres.specs.Metres.{signed, Nearest, Whole}
 use Rattle.metres.specs.Inner.{Rounded, inRange, fitted}
 use Rattle.cells.proofs.Integers.{above, below, le→, →le, lt→, →lt, above-neg, below-neg}
-use Rattle.metres.proofs.NearestLaws.{nearest-unique, nearest-exists, nearest-far, size}
+use Rattle.metres.proofs.NearestLaws.{nearest-unique, nearest-exists, nearest-far, sizeAt}
 
 -- ---- the range: n is a signed 32-bit number
 abbrev pub In32 : ℤ → Type 0
@@ -63,13 +63,13 @@ rounded-fitted s d t k h = go (inRange t k) (in32-yes t k) (in32-no t k)
 unfoldable pub rounded : ℕ → Float → Coordinate
 rounded s nan = Bad
 rounded s (inf t) = Bad
-rounded s (fin t m e) = fitted t (size s t m e)
+rounded s (fin t m e) = fitted t (sizeAt s t m e)
 
 pub rounded-exists : (s : ℕ) (d : Float) → Rounded s d (rounded s d)
 unfolding Rounded rounded Nearest
 rounded-exists s nan = λ n w. w .0
 rounded-exists s (inf t) = λ n w. w .0
-rounded-exists s (fin t m e) = rounded-fitted s (fin t m e) t (size s t m e) (nearest-exists s t m e)
+rounded-exists s (fin t m e) = rounded-fitted s (fin t m e) t (sizeAt s t m e) (nearest-exists s t m e)
 
 pub far-is-bad : (s : ℕ) (t : Bool) (m : ℕ) (e : ℤ) → 2 ^ 32 * down e ≤ m * up e → Rounded s (fin t m e) Bad
 unfolding Rounded

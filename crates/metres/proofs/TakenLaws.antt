@@ -23,7 +23,7 @@ use Rattle.metres.specs.declared.inner.Coordinate.the-variants.{Voxels, 
 use Rattle.metres.specs.declared.inner.Taken.{Taken}
 use Rattle.metres.specs.declared.inner.Taken.the-variants as TakenV
 use Rattle.metres.specs.Metres.{Whole, finest, coordinates, moveTests, Becomes}
-use Rattle.metres.specs.Taken.{told, TakenOf}
+use Rattle.metres.specs.Taken.{outcome, TakenOf}
 use Rattle.metres.specs.Inner.{Rounded, together}
 use Rattle.metres.proofs.Rounding.{one-whole}
 
@@ -69,7 +69,7 @@ same-three i j k i' j' k' e =
     let t : _≡_ {A = ℤ × ℤ × ℤ} (i, j, k) (i', j', k') = cc in
     (ap (λ (v : ℤ × ℤ × ℤ). v .0) t, ap (λ (v : ℤ × ℤ × ℤ). v .1) t, ap (λ (v : ℤ × ℤ × ℤ). v .2) t)
 
-one-told : (t t' : Taken) → told t ≡ told t' → t ≡ t'
+one-told : (t t' : Taken) → outcome t ≡ outcome t' → t ≡ t'
 one-told (TakenV.Bad p) (TakenV.Bad q) e = let f : answer 5 p 0 ≡ answer 5 q 0 = cc in ap (λ (a : Answer). TakenV.Bad (a .place)) f
 one-told (TakenV.Bad p) (TakenV.Voxels i j k) e = let z : _≡_ {A = ℕ} 0 1 = cc in absurd (omega arith)
 one-told (TakenV.Voxels i j k) (TakenV.Bad q) e = let z : _≡_ {A = ℕ} 0 1 = cc in absurd (omega arith)
@@ -78,7 +78,7 @@ one-told (TakenV.Voxels i j k) (TakenV.Voxels i' j' k') e =
     rw (x, y, z)
 
 pub one-taken : (d : Metres) → One (TakenOf d)
-one-taken d t t' h h' = one-told t t' (one-outcome d (told t) (told t') h h')
+one-taken d t t' h h' = one-told t t' (one-outcome d (outcome t) (outcome t') h h')
 
 -- ---- the same tests in a call above, which leaves `refuse a` where one refuses with a
 

@@ -12,10 +12,10 @@ use Rattle.metres.specs.declared.inner.Taken.{Taken}
 use Rattle.metres.specs.declared.inner.Taken.the-variants.{Voxels, Bad}
 
 -- a bad move is number 5 of the table, with its place and list 0; any other is the voxels along x, y and z
-abbrev pub told : Taken → Answer ⊎ (ℤ × ℤ × ℤ)
-told (Bad p) = inl (answer 5 p 0)
-told (Voxels i j k) = inr (i, j, k)
+abbrev pub outcome : Taken → Answer ⊎ (ℤ × ℤ × ℤ)
+outcome (Bad p) = inl (answer 5 p 0)
+outcome (Voxels i j k) = inr (i, j, k)
 
 -- what the metres d become, t: the first test that fails decides, else the whole voxels
 abbrev pub TakenOf : Metres → Taken → Type 0
-TakenOf d t = Decided inl (moveTests (the-move.Metres d)) (λ r. (i : ℤ) × (j : ℤ) × (k : ℤ) × Becomes (the-move.Metres d) (axes i j k) × (r ≡ inr (i, j, k))) (told t)
+TakenOf d t = Decided inl (moveTests (the-move.Metres d)) (λ r. (i : ℤ) × (j : ℤ) × (k : ℤ) × Becomes (the-move.Metres d) (axes i j k) × (r ≡ inr (i, j, k))) (outcome t)

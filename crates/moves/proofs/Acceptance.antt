@@ -25,7 +25,7 @@ use Rattle.cells.proofs.Displacements.{displaced-parts}
 use Rattle.cells.proofs.Views.{cube}
 use Rattle.records.specs.Record.{Ordered}
 use Rattle.records.specs.Carried.{Strays, Straying}
-use Rattle.records.proofs.Lists.{held}
+use Rattle.records.proofs.Lists.{holds-between}
 use Rattle.records.proofs.Leaves.{leaf-of}
 use Rattle.records.proofs.Fault.{index-of}
 use Rattle.records.proofs.Search.{proper-at}
@@ -109,12 +109,12 @@ module _ (D : ℕ) (d : ℕ → ℤ) (p : ℕ → Parted) (split : EachAxis (λ 
         ⊎-elim
         (λ n. (
           start D c,
-          held D c (start D c) (le-refl _) (omega arith),
+          holds-between D c (start D c) (le-refl _) (omega arith),
           λ v came. n (along (2 ^ a) D v) (along-lt (2 ^ a) D v) (rw (corner-start (2 ^ a) D c) (came .each a l)),
         ))
         (λ n. (
           start D c + (span D c - 1),
-          held D c (start D c + (span D c - 1)) (omega arith) (omega arith),
+          holds-between D c (start D c + (span D c - 1)) (omega arith) (omega arith),
           λ v came. n (along (2 ^ a) D v) (along (2 ^ a) D (start D c + (span D c - 1))) (along-lt (2 ^ a) D v) (corner-end a l D c) (came .each a l),
         ))
         (loses-place (2 ^ D) (corner (2 ^ a) D c) (side D c) (d a) (p a) (split a l) f)
@@ -127,21 +127,21 @@ module _ (D : ℕ) (d : ℕ → ℤ) (p : ℕ → Parted) (split : EachAxis (λ 
     first-strays {r} f = record {
       below = f .below;
       here = leaf-strays (getD l r 0) (proper-at D l o r (f .below)) (f .here);
-      before = λ j k (u, held, none). go j k u held none (leafKeeps D p (getD l j 0)) refl;
+      before = λ j k (u, holds-between, none). go j k u holds-between none (leafKeeps D p (getD l j 0)) refl;
     }
       where
         go : (j : ℕ) → j < r → (u : ℕ) → holds D (getD l j 0) u ≡ true → ((v : ℕ) → Came D d u v → ⊥) → (t : Bool) → leafKeeps D p (getD l j 0) ≡ t → ⊥
-        go j k u held none false e = f .before j k e
-        go j k u held none true e =
-            let (v, came) = leaf-stays (getD l j 0) (proper-at D l o j (omega (arith, f .below))) e u held in
+        go j k u holds-between none false e = f .before j k e
+        go j k u holds-between none true e =
+            let (v, came) = leaf-stays (getD l j 0) (proper-at D l o j (omega (arith, f .below))) e u holds-between in
             none v came
 
     -- where all are kept the move is accepted
     pub all-stay : ((i : ℕ) → i < length l → leafKeeps D p (getD l i 0) ≡ true) → Accepted D (Came D d) l
     all-stay kept u b =
-        let (c, m, held) = leaf-of D l u b in
+        let (c, m, holds-between) = leaf-of D l u b in
         let (i, k, e) = index-of c l m in
-        leaf-stays (getD l i 0) (proper-at D l o i k) (kept i k) u (rw e held)
+        leaf-stays (getD l i 0) (proper-at D l o i k) (kept i k) u (rw e holds-between)
 
 -- ---- acceptance: no leaf strays exactly when each black voxel, displaced, stays
 

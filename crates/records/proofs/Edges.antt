@@ -76,8 +76,8 @@ pub child-within : (i w : ℕ) → i < 8 → i * w + w ≤ 8 * w
 child-within i w h = omega (arith, mul-le-mul-right w h, suc-mul i w)
 
 -- where child m of cell b starts
-pub edge : (b m n : ℕ) → (8 * b + m) * 8 ^ n ≡ b * 8 ^ suc n + m * 8 ^ n
-edge b m n = add-mul (8 * b) m (8 ^ n) ∙ ap (λ (z : ℕ). z + m * 8 ^ n) (ap (λ (z : ℕ). z * 8 ^ n) (mul-comm 8 b) ∙ mul-assoc b 8 (8 ^ n) ∙ ap (λ (z : ℕ). b * z) (sym (pow8-suc n)))
+pub child-edge : (b m n : ℕ) → (8 * b + m) * 8 ^ n ≡ b * 8 ^ suc n + m * 8 ^ n
+child-edge b m n = add-mul (8 * b) m (8 ^ n) ∙ ap (λ (z : ℕ). z + m * 8 ^ n) (ap (λ (z : ℕ). z * 8 ^ n) (mul-comm 8 b) ∙ mul-assoc b 8 (8 ^ n) ∙ ap (λ (z : ℕ). b * z) (sym (pow8-suc n)))
 
 -- it ends within the cell
 pub inside : (m n : ℕ) → m < 8 → m * 8 ^ n + 8 ^ n ≤ 8 ^ suc n
@@ -85,4 +85,4 @@ inside m n h = omega (arith, child-within m (8 ^ n) h, pow8-suc n)
 
 -- where the next one starts
 pub edge-next : (b m n : ℕ) → (8 * b + suc m) * 8 ^ n ≡ (8 * b + m) * 8 ^ n + 8 ^ n
-edge-next b m n = omega (arith, edge b m n, edge b (suc m) n, suc-mul m (8 ^ n))
+edge-next b m n = omega (arith, child-edge b m n, child-edge b (suc m) n, suc-mul m (8 ^ n))

@@ -14,7 +14,7 @@ use Rattle.records.specs.Inner.{White}
 use Rattle.cells.proofs.Power.{le-or-lt, pow8-suc}
 use Rattle.cells.proofs.Bools.{both-true, refuted}
 use Rattle.cells.proofs.Cells.{cell-of, child, has-children}
-use Rattle.records.proofs.Lists.{holds-true, held, black-held, black-before}
+use Rattle.records.proofs.Lists.{holds-true, holds-between, black-held, black-before}
 use Rattle.records.proofs.Leaves.{leaf-of, black-append, ordered-append}
 use Rattle.records.proofs.Parents.{capped-condensed}
 use Rattle.records.proofs.Maximal.{one-good-list}
@@ -99,7 +99,7 @@ module _ (D : ℕ) (P : ℕ → Bool) where
     where
       later : (v : ℕ) → v < c → b ≤ v → (black D l v || black D m v) ≡ P v
       later v hi g =
-          let past : black D l v ≡ false = refuted (black D l v) (λ e. let (d, i, held) = leaf-of D l v e in omega (arith, x .ends d i, holds-true D d v held)) in
+          let past : black D l v ≡ false = refuted (black D l v) (λ e. let (d, i, holds-between) = leaf-of D l v e in omega (arith, x .ends d i, holds-true D d v holds-between)) in
           rw past (y .colour v g hi)
 
       sooner : (v : ℕ) → a ≤ v → v < b → (black D l v || black D m v) ≡ P v
@@ -138,7 +138,7 @@ module _ (D : ℕ) (P : ℕ → Bool) where
         over = record {
           ordered = (t .is-proper, omega arith, tt);
           ends = λ d m. rw (List·Memᴰ·eq-of-singleton m) (omega arith);
-          colour = λ v lo hi. black-held D c [] v (held D c v (omega arith) (omega arith)) ∙ sym (all-true P s (8 ^ n) e v lo hi);
+          colour = λ v lo hi. black-held D c [] v (holds-between D c v (omega arith) (omega arith)) ∙ sym (all-true P s (8 ^ n) e v lo hi);
         };
         capped = λ q m. inl (List·Memᴰ·eq-of-singleton m);
       }
@@ -162,7 +162,7 @@ module _ (D : ℕ) (P : ℕ → Bool) where
       white : White D P c
       white =
           let (v, lo, hi, w) = all-false P s (8 ^ suc n) e in
-          record { voxel = v; inside = held D c v (omega (arith, t .is-start)) (omega (arith, t .is-start, t .is-span)); white = w }
+          record { voxel = v; inside = holds-between D c v (omega (arith, t .is-start)) (omega (arith, t .is-start, t .is-span)); white = w }
 
   pub filled : (n c s : ℕ) → At D c n s → Filled D P n c s (leaves P n c s)
   filled zero c s t = go (allFrom P s 1) refl
@@ -180,17 +180,17 @@ module _ (D : ℕ) (P : ℕ → Bool) where
 -- ---- the whole cube
 
 -- the root cube
-pub root : (D : ℕ) → At D 1 D 0
-root D = let t = cell-of D 0 D 0 (omega arith) (omega arith) in record { is-proper = t .0; is-start = t .3 ∙ zero-mul (8 ^ D); is-span = t .2 }
+pub root-at : (D : ℕ) → At D 1 D 0
+root-at D = let t = cell-of D 0 D 0 (omega arith) (omega arith) in record { is-proper = t .0; is-start = t .3 ∙ zero-mul (8 ^ D); is-span = t .2 }
 
 pub is-coloured : (D : ℕ) (P : ℕ → Bool) (v : ℕ) → v < 8 ^ D → black D (goodList D P) v ≡ P v
 unfolding goodList
-is-coloured D P v h = filled D P D 1 0 (root D) .over .colour v zero-le (omega arith)
+is-coloured D P v h = filled D P D 1 0 (root-at D) .over .colour v zero-le (omega arith)
 
 pub is-good : (D : ℕ) (P : ℕ → Bool) → Good D (goodList D P)
 unfolding goodList
 is-good D P =
-    let fill = filled D P D 1 0 (root D) in
+    let fill = filled D P D 1 0 (root-at D) in
     record {
       ordered = fill .over .ordered;
       condensed =

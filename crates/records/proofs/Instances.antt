@@ -85,15 +85,15 @@ check-takes-none h = let e : _≡_ {A = ℕ} 0 4 = ap (λ (r : Answer). r .numbe
 abbrev two : List ℕ
 two = 8 ∷ 10 ∷ []
 
-sound : (a : Answer) → Faulty 2 two 1 a → ⊥
+two-faultless : (a : Answer) → Faulty 2 two 1 a → ⊥
 unfolding level proper index span start early fault
-sound a (zero, f, _) = f .here refl
-sound a (suc zero, f, _) = f .here refl
-sound a (suc (suc i), f, _) = absurd (omega (arith, f .below))
+two-faultless a (zero, f, _) = f .here refl
+two-faultless a (suc zero, f, _) = f .here refl
+two-faultless a (suc (suc i), f, _) = absurd (omega (arith, f .below))
 
-north : Neighbour 2 67 (axes (pos 0) (pos 1) (pos 0)) 81
+north-of : Neighbour 2 67 (axes (pos 0) (pos 1) (pos 0)) 81
 unfolding level proper along index side corner
-north = record { is-proper = refl; same-level = refl; each = each-axis _ refl refl refl }
+north-of = record { is-proper = refl; same-level = refl; each = each-axis _ refl refl refl }
 
 r0-before : end 2 8 ≤ start 2 81
 unfolding level index span start
@@ -120,7 +120,7 @@ meeting : MeetingOf 2 two 67 (axes (pos 0) (pos 1) (pos 0)) (record { answer = g
 unfolding level proper digitOf
 meeting =
     let d = numbered (axes (pos 0) (pos 1) (pos 0)) (each-axis _ (omega arith) (omega arith) (omega arith)) .good (λ e. omega arith) in
-    inr (passes (λ h. omega arith), inr (sound, inr (passes (clash refl), inr (passes (λ none. none d), inr (passes (λ none. none 81 north), (81, north, bigger, refl))))))
+    inr (passes (λ h. omega arith), inr (two-faultless, inr (passes (clash refl), inr (passes (λ none. none d), inr (passes (λ none. none 81 north-of), (81, north-of, bigger, refl))))))
 
 pub met-holds : MetOf 2 two (5, 0) 67 (axes (pos 0) (pos 1) (pos 0)) (10 ∷ []) (5, 4)
 met-holds = record { meeting = _; found = meeting; codes = refl; begins = refl }

@@ -11,7 +11,7 @@ use Rattle.records.specs.Record.{black, Ordered}
 use Rattle.cells.proofs.Bools.{clash}
 use Rattle.cells.proofs.Power.{le-or-lt}
 use Rattle.cells.proofs.Cells.{span-pos}
-use Rattle.records.proofs.Lists.{holds-true, held, black-held, black-past}
+use Rattle.records.proofs.Lists.{holds-true, holds-between, black-held, black-past}
 
 -- ---- members
 
@@ -71,7 +71,7 @@ ordered-append D a b (x ∷ l) m (p, f, o) ends h k = (p, f, ordered-append D (e
 pub member-ends : (D b : ℕ) (l : List ℕ) → ((v : ℕ) → b ≤ v → black D l v ≡ false) → (c : ℕ) → List·Memᴰ c l → end D c ≤ b
 member-ends D b l none c m =
     let u = span-pos D c in
-    ⊎-elim (λ h. h) (λ (h : b < end D c). absurd (clash (member-black D c l (end D c - 1) m (held D c (end D c - 1) (omega arith) (omega arith))) (none (end D c - 1) (omega arith)))) (le-or-lt (end D c) b)
+    ⊎-elim (λ h. h) (λ (h : b < end D c). absurd (clash (member-black D c l (end D c - 1) m (holds-between D c (end D c - 1) (omega arith) (omega arith))) (none (end D c - 1) (omega arith)))) (le-or-lt (end D c) b)
 
 -- one more leaf
 pub ordered-snoc : (D a b : ℕ) (l : List ℕ) (c : ℕ) → Ordered D a l → ((v : ℕ) → b ≤ v → black D l v ≡ false) → proper D c ≡ true → a ≤ start D c → b ≤ start D c → Ordered D a (l ++ (c ∷ []))

@@ -20,9 +20,9 @@ pub holds-true : (D c v : ℕ) → holds D c v ≡ true → (start D c ≤ v) ×
 unfolding holds
 holds-true D c v e = let t = both-true (leb (start D c) v) (ltb v (end D c)) e in (leb-true _ _ (t .0), ltb-true _ _ (t .1))
 
-pub held : (D c v : ℕ) → start D c ≤ v → v < end D c → holds D c v ≡ true
+pub holds-between : (D c v : ℕ) → start D c ≤ v → v < end D c → holds D c v ≡ true
 unfolding holds
-held D c v h k = rw (le-leb _ _ h, lt-ltb _ _ k)
+holds-between D c v h k = rw (le-leb _ _ h, lt-ltb _ _ k)
 
 pub before-cell : (D c v : ℕ) → v < start D c → holds D c v ≡ false
 before-cell D c v h = refuted (holds D c v) (λ e. let t = holds-true D c v e in omega arith)

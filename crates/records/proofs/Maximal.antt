@@ -11,7 +11,7 @@ use Rattle.cells.specs.Cell.{level, proper, start, span, end, holds}
 use Rattle.records.specs.Record.{black, Ordered, Condensed, Good}
 use Rattle.cells.proofs.Power.{le-or-lt, pow8-suc, pow8-lt-inv, pow8-le-inv}
 use Rattle.cells.proofs.Cells.{cell, same-cell, span-pos, child, Inside, child-inside, has-children, Apart, nested}
-use Rattle.records.proofs.Lists.{AllBlack, holds-true, held, black-beyond}
+use Rattle.records.proofs.Lists.{AllBlack, holds-true, holds-between, black-beyond}
 use Rattle.records.proofs.Leaves.{member, member-black, leaf-of, one-leaf}
 
 -- ---- cells
@@ -27,7 +27,7 @@ shares-inside D c d v p q h a b = go (nested D c d p q h)
 
 -- a cell holds its first voxel, and those of the cells inside it
 first-held : (D c d : ℕ) → Inside D c d → holds D d (start D c) ≡ true
-first-held D c d (a, b) = held D d (start D c) a (omega (arith, span-pos D c))
+first-held D c d (a, b) = holds-between D d (start D c) a (omega (arith, span-pos D c))
 
 -- spans are powers of eight
 exact-span : (D c d : ℕ) → span D d ≤ span D c → span D c < 8 * span D d → span D c ≡ span D d
@@ -90,9 +90,9 @@ module _ (D from : ℕ) (l : List ℕ) (o : Ordered D from l) (con : Condensed l
 same-leaves : (D : ℕ) (l m : List ℕ) → Good D l → Good D m → ((v : ℕ) → black D l v ≡ black D m v) → (c : ℕ) → List·Memᴰ c l → List·Memᴰ c m
 same-leaves D l m g h b c i =
     let p = member D 0 l c (g .ordered) i .0 in
-    let (d, j, x) = inside-leaf D 0 m (h .ordered) (h .condensed) c p (λ v lo hi. sym (b v) ∙ member-black D c l v i (held D c v lo hi)) in
+    let (d, j, x) = inside-leaf D 0 m (h .ordered) (h .condensed) c p (λ v lo hi. sym (b v) ∙ member-black D c l v i (holds-between D c v lo hi)) in
     let q = member D 0 m d (h .ordered) j .0 in
-    let (e, k, y) = inside-leaf D 0 l (g .ordered) (g .condensed) d q (λ v lo hi. b v ∙ member-black D d m v j (held D d v lo hi)) in
+    let (e, k, y) = inside-leaf D 0 l (g .ordered) (g .condensed) d q (λ v lo hi. b v ∙ member-black D d m v j (holds-between D d v lo hi)) in
     let back : e ≡ c = one-leaf D 0 l e c (start D c) (g .ordered) k i (first-held D c e (omega (arith, x .0, x .1, y .0, y .1))) (first-held D c c (le-refl _, le-refl _)) in
     let y′ : Inside D d c = rw back at y in
     let s : start D d ≡ start D c = omega (arith, x .0, y′ .0) in

@@ -11,7 +11,7 @@ use Rattle.records.specs.Inner.{White}
 use Rattle.cells.proofs.Bools.{clash}
 use Rattle.cells.proofs.Power.{pow8-pos}
 use Rattle.cells.proofs.Cells.{Child, proper-bounds, span-pos, within, child, parent}
-use Rattle.records.proofs.Lists.{holds-true, held}
+use Rattle.records.proofs.Lists.{holds-true, holds-between}
 use Rattle.records.proofs.Leaves.{member, member-black}
 
 -- a code 8 * q is that of a first child, and q is its parent
@@ -44,7 +44,7 @@ in-child D p v q h k =
     let st : start D (8 * p + j) ≡ start D p + j * u = t .is-start ∙ ap (λ (x : ℕ). start D p + j * x) same in
     let a : j * u ≤ v - start D p = div-mul-le-self (v - start D p) u in
     let b : v - start D p < j * u + u = lt-div-mul-add pos in
-    (j, below, held D (8 * p + j) v (omega arith) (omega arith))
+    (j, below, holds-between D (8 * p + j) v (omega arith) (omega arith))
 
 pub capped-condensed : (D : ℕ) (P : ℕ → Bool) (l : List ℕ) → Ordered D 0 l → ((v : ℕ) → v < 8 ^ D → black D l v ≡ P v) → ((q : ℕ) → List·Memᴰ (8 * q) l → White D P q) → Condensed l
 unfolding Condensed

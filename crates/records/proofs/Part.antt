@@ -12,7 +12,7 @@ use Rattle.records.specs.Met.{Meets, MetPart}
 use Rattle.records.specs.Slot.{PartOf}
 use Rattle.cells.proofs.Power.{le-or-lt}
 use Rattle.cells.proofs.Cells.{span-pos}
-use Rattle.records.proofs.Lists.{holds-true, held}
+use Rattle.records.proofs.Lists.{holds-true, holds-between}
 use Rattle.records.proofs.Fault.{in-order}
 
 -- two cells meet just where neither ends before the other begins
@@ -26,7 +26,7 @@ meets-iff D c m = (to, back)
     back (h, k) =
         let a = span-pos D c in
         let b = span-pos D m in
-        (max (start D c) (start D m), held D c _ (omega arith) (omega arith), held D m _ (omega arith) (omega arith))
+        (max (start D c) (start D m), holds-between D c _ (omega arith) (omega arith), holds-between D m _ (omega arith) (omega arith))
 
 -- in an ordered list the starts and the ends rise
 module _ (D : ℕ) (l : List ℕ) (o : Ordered D 0 l) (i j : ℕ) (h : i ≤ j) (k : j < length l) where
@@ -42,8 +42,8 @@ module _ (D : ℕ) (l : List ℕ) (o : Ordered D 0 l) (i j : ℕ) (h : i ≤ j) 
   ends-rise = rises .1
 
 -- so a leaf between two leaves that meet a cell meets it too
-pub together : (D : ℕ) (l : List ℕ) → Ordered D 0 l → (m i j k : ℕ) → i ≤ j → j ≤ k → k < length l → Meets D (getD l i 0) m → Meets D (getD l k 0) m → Meets D (getD l j 0) m
-together D l o m i j k a b h p q =
+pub meets-between : (D : ℕ) (l : List ℕ) → Ordered D 0 l → (m i j k : ℕ) → i ≤ j → j ≤ k → k < length l → Meets D (getD l i 0) m → Meets D (getD l k 0) m → Meets D (getD l j 0) m
+meets-between D l o m i j k a b h p q =
     let (x, y) = meets-iff D (getD l i 0) m .0 p in
     let (z, w) = meets-iff D (getD l k 0) m .0 q in
     meets-iff D (getD l j 0) m .1 (omega (arith, starts-rise D l o j k b h), omega (arith, ends-rise D l o i j a (omega arith)))

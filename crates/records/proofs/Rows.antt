@@ -32,26 +32,26 @@ same-at l i j e = ap (λ (n : ℕ). getD l n 0) e
 
 -- ---- the code c at i and those before it, down to the first child of its parent, stand in a row
 
-abbrev Row : List ℕ → ℕ → ℕ → Type 0
-Row l i c = (k : ℕ) → k ≤ c % 8 → (k ≤ i) × (getD l (i - k) 0 + k ≡ c)
+abbrev InRow : List ℕ → ℕ → ℕ → Type 0
+InRow l i c = (k : ℕ) → k ≤ c % 8 → (k ≤ i) × (getD l (i - k) 0 + k ≡ c)
 
 -- and so do those of the code before it, a sibling
-row-before : (l : List ℕ) (i : ℕ) → (getD l (suc i) 0 % 8 ≡ 0 → ⊥) → Row l (suc i) (getD l (suc i) 0) → (getD l (suc i) 0 - 1 ≡ getD l i 0) × Row l i (getD l i 0)
+row-before : (l : List ℕ) (i : ℕ) → (getD l (suc i) 0 % 8 ≡ 0 → ⊥) → InRow l (suc i) (getD l (suc i) 0) → (getD l (suc i) 0 - 1 ≡ getD l i 0) × InRow l i (getD l i 0)
 row-before l i later row =
     let (_, e) = row 1 (omega arith) in
     let back = same-at l (suc i - 1) i (omega arith) in
     (omega arith, λ k h. let (b, f) = row (suc k) (omega arith) in (le-of-suc-le-suc b, omega (arith, same-at l (suc i - suc k) (i - k) (omega arith))))
 
-row-after : (l : List ℕ) (i : ℕ) → (getD l (suc i) 0 % 8 ≡ 0 → ⊥) → getD l (suc i) 0 - 1 ≡ getD l i 0 → Row l i (getD l i 0) → Row l (suc i) (getD l (suc i) 0)
+row-after : (l : List ℕ) (i : ℕ) → (getD l (suc i) 0 % 8 ≡ 0 → ⊥) → getD l (suc i) 0 - 1 ≡ getD l i 0 → InRow l i (getD l i 0) → InRow l (suc i) (getD l (suc i) 0)
 row-after l i later e row zero h = (zero-le, omega (arith, same-at l (suc i - 0) (suc i) (omega arith)))
 row-after l i later e row (suc k) h =
     let (b, f) = row k (omega arith) in
     (suc-le-suc b, omega (arith, same-at l (suc i - suc k) (i - k) (omega arith)))
 
-row-alone : (l : List ℕ) (i : ℕ) → getD l i 0 % 8 ≡ 0 → Row l i (getD l i 0)
+row-alone : (l : List ℕ) (i : ℕ) → getD l i 0 % 8 ≡ 0 → InRow l i (getD l i 0)
 row-alone l i z k h = (omega arith, omega (arith, same-at l (i - k) i (omega arith)))
 
-run-made : (l : List ℕ) (i : ℕ) → Row l i (getD l i 0) → runOf l (suc i) ≡ suc (getD l i 0 % 8)
+run-made : (l : List ℕ) (i : ℕ) → InRow l i (getD l i 0) → runOf l (suc i) ≡ suc (getD l i 0 % 8)
 unfolding runOf lastOf
 run-made l zero row = next-first _ _ _ (first (getD l 0 0 % 8) refl)
   where
@@ -60,25 +60,25 @@ run-made l zero row = next-first _ _ _ (first (getD l 0 0 % 8) refl)
     first (suc n) e = absurd (omega (arith, row 1 (omega arith) .0))
 run-made l (suc i) row = go (run-made l i) (eqb (getD l (suc i) 0 % 8) 0) refl
   where
-    go : (Row l i (getD l i 0) → runOf l (suc i) ≡ suc (getD l i 0 % 8)) → (t : Bool) → eqb (getD l (suc i) 0 % 8) 0 ≡ t → nextRun (getD l i 0) (runOf l (suc i)) (getD l (suc i) 0) ≡ suc (getD l (suc i) 0 % 8)
+    go : (InRow l i (getD l i 0) → runOf l (suc i) ≡ suc (getD l i 0 % 8)) → (t : Bool) → eqb (getD l (suc i) 0 % 8) 0 ≡ t → nextRun (getD l i 0) (runOf l (suc i)) (getD l (suc i) 0) ≡ suc (getD l (suc i) 0 % 8)
     go ih true h = next-first _ _ _ (eqb-true (getD l (suc i) 0 % 8) 0 h)
     go ih false h =
         let later = eqb-false (getD l (suc i) 0 % 8) 0 h in
         let (e, row′) = row-before l i later row in
         next-more _ _ _ later (omega (arith, ih row′)) e
 
-run-true : (l : List ℕ) (i : ℕ) → (runOf l (suc i) ≡ 0 → ⊥) → (runOf l (suc i) ≡ suc (getD l i 0 % 8)) × Row l i (getD l i 0)
+run-true : (l : List ℕ) (i : ℕ) → (runOf l (suc i) ≡ 0 → ⊥) → (runOf l (suc i) ≡ suc (getD l i 0 % 8)) × InRow l i (getD l i 0)
 unfolding runOf lastOf
 run-true l zero some = go (eqb (getD l 0 0 % 8) 0) refl
   where
-    go : (t : Bool) → eqb (getD l 0 0 % 8) 0 ≡ t → (nextRun 0 0 (getD l 0 0) ≡ suc (getD l 0 0 % 8)) × Row l 0 (getD l 0 0)
+    go : (t : Bool) → eqb (getD l 0 0 % 8) 0 ≡ t → (nextRun 0 0 (getD l 0 0) ≡ suc (getD l 0 0 % 8)) × InRow l 0 (getD l 0 0)
     go true h = let z = eqb-true (getD l 0 0 % 8) 0 h in (next-first _ _ _ z, row-alone l 0 z)
     go false h = absurd (some (next-none _ _ _ (eqb-false (getD l 0 0 % 8) 0 h) refl))
 run-true l (suc i) some = go (run-true l i) (eqb (getD l (suc i) 0 % 8) 0) refl (leb 1 (runOf l (suc i)) && eqb (getD l (suc i) 0 - 1) (getD l i 0)) refl
   where
-    go : ((runOf l (suc i) ≡ 0 → ⊥) → (runOf l (suc i) ≡ suc (getD l i 0 % 8)) × Row l i (getD l i 0)) → (t : Bool) → eqb (getD l (suc i) 0 % 8) 0 ≡ t
+    go : ((runOf l (suc i) ≡ 0 → ⊥) → (runOf l (suc i) ≡ suc (getD l i 0 % 8)) × InRow l i (getD l i 0)) → (t : Bool) → eqb (getD l (suc i) 0 % 8) 0 ≡ t
         → (u : Bool) → (leb 1 (runOf l (suc i)) && eqb (getD l (suc i) 0 - 1) (getD l i 0)) ≡ u
-        → (nextRun (getD l i 0) (runOf l (suc i)) (getD l (suc i) 0) ≡ suc (getD l (suc i) 0 % 8)) × Row l (suc i) (getD l (suc i) 0)
+        → (nextRun (getD l i 0) (runOf l (suc i)) (getD l (suc i) 0) ≡ suc (getD l (suc i) 0 % 8)) × InRow l (suc i) (getD l (suc i) 0)
     go ih true h u g = let z = eqb-true (getD l (suc i) 0 % 8) 0 h in (next-first _ _ _ z, row-alone l (suc i) z)
     go ih false h false g = absurd (some (next-none _ _ _ (eqb-false (getD l (suc i) 0 % 8) 0 h) g))
     go ih false h true g =

@@ -16,7 +16,7 @@ use Rattle.records.specs.Met.{MetPart}
 use Rattle.cells.proofs.Power.{le-or-lt}
 use Rattle.cells.proofs.Bools.{both-true, refuted, clash}
 use Rattle.cells.proofs.Cells.{span-pos}
-use Rattle.records.proofs.Lists.{holds-true, held}
+use Rattle.records.proofs.Lists.{holds-true, holds-between}
 use Rattle.records.proofs.Leaves.{member, member-black, leaf-of}
 use Rattle.records.proofs.Fault.{member-at, index-of, in-order}
 use Rattle.records.proofs.Part.{ends-rise, part-made}
@@ -62,7 +62,7 @@ module _ (D : ℕ) (l : List ℕ) (o : Ordered D 0 l) where
           let (p, r) = reaches-true D l at v e in
           let i : at - 1 < length l = omega (arith, s .high) in
           let lo = s .below (at - 1) zero-le (omega arith) in
-          sym (member-black D (getD l (at - 1) 0) l v (member-at l (at - 1) i) (held D (getD l (at - 1) 0) v (omega arith) r))
+          sym (member-black D (getD l (at - 1) 0) l v (member-at l (at - 1) i) (holds-between D (getD l (at - 1) 0) v (omega arith) r))
       go false e = sym (refuted (black D l v) (λ b.
           let (c, m, h) = leaf-of D l v b in
           let (i, k, f) = index-of c l m in

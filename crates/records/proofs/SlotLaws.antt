@@ -14,11 +14,11 @@ use Rattle.cells.proofs.Power.{le-or-lt, pow8-pos}
 use Rattle.cells.proofs.Cells.{span-pos}
 use Rattle.records.specs.Record.{black}
 use Rattle.records.specs.Inner.{Starts}
-use Rattle.records.proofs.Lists.{held, before-cell, after-cell}
+use Rattle.records.proofs.Lists.{holds-between, before-cell, after-cell}
 use Rattle.records.proofs.Leaves.{member-black, leaf-of}
 use Rattle.records.proofs.Fault.{member-at, index-of, in-order}
 use Rattle.records.proofs.Search.{proper-at}
-use Rattle.records.proofs.Edges.{small-before, small-after, big-from, big-to, smaller, edge, inside, edge-next}
+use Rattle.records.proofs.Edges.{small-before, small-after, big-from, big-to, smaller, child-edge, inside, edge-next}
 use Rattle.records.specs.Slot.{Source, Of, OfCell, SlotTint, tintOf, slotAt}
 use Rattle.records.specs.declared.inner.slots.Tint.the-variants.{Black, Mixed}
 use Rattle.records.specs.declared.inner.slots.Slot.{Slot}
@@ -75,7 +75,7 @@ module _ {D n b : ℕ} {l : List ℕ} {s : Slot} (x : Of D l n b s) where
   -- the tint of one colour: all of the cell has it
   pub slot-colour : Source D l → (c : Bool) → SlotTint D l (8 ^ n) s (tintOf c) → (u : ℕ) → b * 8 ^ n ≤ u → u < b * 8 ^ n + 8 ^ n → black D l u ≡ c
   slot-colour o false t u v e = slot-off u v e (λ i p q. absurd (omega arith))
-  slot-colour o true t u v e = black-at D l (s .lo) u (omega (arith, t .0, x .leaves .within)) (held D (leaf o t) u (omega (arith, covers o t)) (omega (arith, covers o t)))
+  slot-colour o true t u v e = black-at D l (s .lo) u (omega (arith, t .0, x .leaves .within)) (holds-between D (leaf o t) u (omega (arith, covers o t)) (omega (arith, covers o t)))
 
 -- the slot of cell b, by that number
 abbrev pub at-cell : {D n b : ℕ} {l : List ℕ} {s : Slot} → OfCell D l n s → Of D l n b s → OfCell D l n s
@@ -120,9 +120,9 @@ module _ {D n b : ℕ} {l : List ℕ} {s : Slot} (x : Of D l (suc n) b s) (m : �
     leaves = record {
       order = x .leaves .order;
       within = x .leaves .within;
-      before = λ i p. omega (arith, x .leaves .before i p, edge b m n);
-      after = λ i p q. omega (arith, x .leaves .after i p q, edge b m n, inside m n m<8);
-      meets = λ i p q. (omega (arith, h i p q, edge b m n, pow8-pos n), omega (arith, h i p q, edge b m n, inside m n m<8, pow8-pos n));
+      before = λ i p. omega (arith, x .leaves .before i p, child-edge b m n);
+      after = λ i p q. omega (arith, x .leaves .after i p q, child-edge b m n, inside m n m<8);
+      meets = λ i p q. (omega (arith, h i p q, child-edge b m n, pow8-pos n), omega (arith, h i p q, child-edge b m n, inside m n m<8, pow8-pos n));
     };
   }
 
@@ -152,7 +152,7 @@ module _ {D n : ℕ} {l : List ℕ} {s : Slot} (x : OfCell D l (suc n) s) (mixed
     low = omega arith;
     high = x .part .leaves .order;
     below = λ j p q. absurd (omega arith);
-    above = λ j p q. omega (arith, edge b 0 n, slot-low x mixed j p q);
+    above = λ j p q. omega (arith, child-edge b 0 n, slot-low x mixed j p q);
   }
 
   module _ {m i e : ℕ} (k : Cut D l b n (s .lo) (s .hi) m i) (f : Starts D l ((8 * b + suc m) * 8 ^ n) i (s .hi) e) where
@@ -172,11 +172,11 @@ module _ {D n : ℕ} {l : List ℕ} {s : Slot} (x : OfCell D l (suc n) s) (mixed
         before = λ j p.
             ⊎-elim
             (λ (g : s .lo ≤ j). let in-slot : j < s .hi = omega (arith, k .high) in small-before D (getD l j 0) (slot-proper x mixed j in-slot) (8 * b + m) n (small j g in-slot) (k .below j g p))
-            (λ (g : j < s .lo). omega (arith, x .part .leaves .before j g, edge b m n))
+            (λ (g : j < s .lo). omega (arith, x .part .leaves .before j g, child-edge b m n))
             (le-or-lt (s .lo) j);
         after = λ j p q.
             ⊎-elim
-            (λ (g : s .hi ≤ j). omega (arith, x .part .leaves .after j g q, edge b m n, inside m n h))
+            (λ (g : s .hi ≤ j). omega (arith, x .part .leaves .after j g q, child-edge b m n, inside m n h))
             (λ (g : j < s .hi). omega (arith, f .above j p g, edge-next b m n))
             (le-or-lt (s .hi) j);
         meets = λ j p q. (omega (arith, f .below j p q, edge-next b m n), omega (arith, k .above j p (omega (arith, f .high)), span-pos D (getD l j 0)));

@@ -39,9 +39,9 @@ fault-is D l i = rw (fault-table D l i, early-past D l i, eight-run l i)
 pub going : {D : ℕ} {l : List ℕ} {i : ℕ} {w : Walk} → w .number ≡ 0 → Faultless D l i w → Walked D l i w
 going z k = record { stopped = λ n. absurd (n z); is-number = λ n. absurd (n z); kept = λ _. k }
 
-pub begins : (D : ℕ) (l : List ℕ) → Faultless D l 0 (record { number = 0; passed = 0; last = 0; past = 0; run = 0; sum = 0 })
+pub walk-begins : (D : ℕ) (l : List ℕ) → Faultless D l 0 (record { number = 0; passed = 0; last = 0; past = 0; run = 0; sum = 0 })
 unfolding lastOf pastOf voxels runOf
-begins D l = record { faultless = λ j h. absurd (omega arith); is-passed = refl; is-last = refl; is-past = refl; is-run = refl; is-sum = refl; few = zero-le; count = zero-le; within = zero-le }
+walk-begins D l = record { faultless = λ j h. absurd (omega arith); is-passed = refl; is-last = refl; is-past = refl; is-run = refl; is-sum = refl; few = zero-le; count = zero-le; within = zero-le }
 
 -- a walk that has ended stays as it is
 pub stays : {D : ℕ} {l : List ℕ} {i n : ℕ} {w : Walk} → Walked D l i w → (w .number ≡ 0 → ⊥) → i ≤ n → Walked D l n w

@@ -10,7 +10,7 @@ use lib.Seq.{drop-cons}
 use Rattle.cells.specs.Cell.{proper, start, end}
 use Rattle.cells.proofs.Cells.{span-pos, within}
 use Rattle.records.specs.Record.{black, Ordered}
-use Rattle.records.proofs.Lists.{held, before-cell, after-cell, black-held, black-past, black-before}
+use Rattle.records.proofs.Lists.{holds-between, before-cell, after-cell, black-held, black-past, black-before}
 use Rattle.sets.specs.declared.inner.Cursor.{Cursor}
 use Rattle.sets.specs.Inner.{Behind, Points, Steady}
 
@@ -58,7 +58,7 @@ module _ {D : ℕ} {l : List ℕ} {i v : ℕ} (h : i < length l) (b : Behind D l
     some = λ k. omega (arith, span-pos D c);
     ahead = λ k. omega (arith, head .1, span-pos D c);
     before = λ w k m. split w k ∙ black-past D c _ w (before-cell D c w (omega arith)) ∙ black-before D _ _ (head .2) w (omega arith);
-    inside = λ w k m. split w (omega (arith, head .1)) ∙ black-held D c _ w (held D c w (omega arith) (omega arith));
+    inside = λ w k m. split w (omega (arith, head .1)) ∙ black-held D c _ w (holds-between D c w (omega arith) (omega arith));
     behind = record {
       root = omega (arith, within D c (head .0));
       rest = λ w k. split w (omega (arith, head .1)) ∙ black-past D c _ w (after-cell D c w (omega arith));

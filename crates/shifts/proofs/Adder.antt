@@ -7,23 +7,24 @@ use native.Mathlib.Omega.{arith}
 use lib.Arith.{mod-mul}
 use borrow.Author.Tests.{lt-ltb}
 use Rattle.cells.specs.Place.{EachAxis, along}
+use Rattle.cells.proofs.Places.{bitOf}
 use Rattle.cells.proofs.Power.{pow8-pos, pow8-suc}
 use Rattle.cells.proofs.Labelwise.{labelwise}
 use Rattle.records.specs.Record.{black}
 use Rattle.shifts.specs.LabelSums.{sumLabel, carryLabel, Uses}
 use Rattle.shifts.specs.Shift.{shift, shifted, carry, cellOf, need}
-use Rattle.shifts.proofs.Bits.{bit, same-label, zero-bit, sum-lt, sum-bit, carry-lt, carry-bit, join-lt, join-bit, uses-none, none-used, uses-carry}
+use Rattle.shifts.proofs.Bits.{same-label, zero-bit, sum-lt, sum-bit, carry-lt, carry-bit, join-lt, join-bit, uses-none, none-used, uses-carry}
 
 -- ---- along an axis the shift is a sum, with what is lost out of the first label
 
-pub shift-sum : (n w q v : ℕ) → (shift n w q v < 8 ^ n) × EachAxis (λ a. (l : ℕ) × (along (2 ^ a) n (shift n w q v) + l * 2 ^ n ≡ along (2 ^ a) n v + along (2 ^ a) n w + bit a q))
+pub shift-sum : (n w q v : ℕ) → (shift n w q v < 8 ^ n) × EachAxis (λ a. (l : ℕ) × (along (2 ^ a) n (shift n w q v) + l * 2 ^ n ≡ along (2 ^ a) n v + along (2 ^ a) n w + bitOf a q))
 unfolding shift along
 shift-sum n w q v =
     let x = labelwise {S = ℕ × ℕ × ℕ}
     (λ (w, q, v). sumLabel (w % 8) (v % 8) q)
     (λ (w, q, v). (w / 8, carryLabel (w % 8) (v % 8) q, v / 8))
     (λ n (w, q, v). shift n w q v)
-    (λ a n (w, q, v). along (2 ^ a) n v + along (2 ^ a) n w + bit a q)
+    (λ a n (w, q, v). along (2 ^ a) n v + along (2 ^ a) n w + bitOf a q)
     (λ (w, q, v). sum-lt (w % 8) (v % 8) q) (λ s. refl) (λ n s. refl)
     (λ a h n (w, q, v). omega (arith, sum-bit (w % 8) (v % 8) q a h, carry-bit (w % 8) (v % 8) q a h)) n (w, q, v) in
     (x .0, λ a h. (_, x .1 a h))
@@ -128,7 +129,7 @@ unfolding need
 need-none zero w h = simp (pow-zero, mod-one)
 need-none (suc n) w h =
     let m = w / 8 ^ n % 8 in
-    let both : (a : ℕ) → a < 3 → max (bit a (need n w)) (bit a m) ≡ 0 = λ a l. sym (join-bit (need n w) m a l) ∙ ap (bit a) h ∙ zero-bit a in
+    let both : (a : ℕ) → a < 3 → max (bitOf a (need n w)) (bitOf a m) ≡ 0 = λ a l. sym (join-bit (need n w) m a l) ∙ ap (bitOf a) h ∙ zero-bit a in
     let f0 : need n w ≡ 0 = same-label (need n w) 0 (need-lt n w) (omega arith) (λ a l. omega (arith, both a l, zero-bit a)) in
     let m0 : m ≡ 0 = same-label m 0 (omega arith) (omega arith) (λ a l. omega (arith, both a l, zero-bit a)) in
     ap (λ (x : ℕ). w % x) (pow8-suc n) ∙ mod-mul w {m = 8} {c = 8 ^ n} (omega arith) (pow8-pos n) ∙ rw (m0, need-none n w f0) (omega (arith, zero-mul (8 ^ n)))

@@ -3,27 +3,23 @@ use mathlib.Core.Path.{_≡_, sym, ap, _∙_}
 use Prim.Native.Nat.{ℕ, _+_, _*_, _/_, _%_, _^_, _<_, max}
 use native.Mathlib.Nat.{zero-div}
 use native.Mathlib.Omega.{arith}
-use Rattle.cells.proofs.Places.{label-axes}
+use Rattle.cells.proofs.Places.{bitOf, label-axes}
 use Rattle.shifts.specs.LabelSums.{label, ones, sumLabel, carryLabel, joinLabel, Uses}
 
 -- ---- a label by its bits
-
--- bit a of a label
-abbrev pub bit : ℕ → ℕ → ℕ
-bit a f = f / 2 ^ a % 2
 
 module _ (f : ℕ → ℕ) (two : (b : ℕ) → f b < 2) where
   pub label-lt : label f < 8
   label-lt = omega (arith, two 1, two 2, two 4)
 
-  pub label-is : (a : ℕ) → a < 3 → bit a (label f) ≡ f (2 ^ a)
+  pub label-is : (a : ℕ) → a < 3 → bitOf a (label f) ≡ f (2 ^ a)
   label-is = label-axes (λ a. f (2 ^ a)) (λ a h. two (2 ^ a))
 
 label-bits : (f : ℕ) → f < 8 → f / 1 % 2 + 2 * (f / 2 % 2) + 4 * (f / 4 % 2) ≡ f
 label-bits f h = omega arith
 
 -- a label is known by its bits
-pub same-label : (f g : ℕ) → f < 8 → g < 8 → ((a : ℕ) → a < 3 → bit a f ≡ bit a g) → f ≡ g
+pub same-label : (f g : ℕ) → f < 8 → g < 8 → ((a : ℕ) → a < 3 → bitOf a f ≡ bitOf a g) → f ≡ g
 same-label f g h k e =
     let x : f / 1 % 2 ≡ g / 1 % 2 = e 0 (omega arith) in
     let y : f / 2 % 2 ≡ g / 2 % 2 = e 1 (omega arith) in
@@ -46,7 +42,7 @@ module _ (h m q : ℕ) where
   unfolding sumLabel
   sum-lt = label-lt (λ b. ones b h m q % 2) (λ b. two-of (ones b h m q))
 
-  pub sum-bit : (a : ℕ) → a < 3 → bit a (sumLabel h m q) ≡ ones (2 ^ a) h m q % 2
+  pub sum-bit : (a : ℕ) → a < 3 → bitOf a (sumLabel h m q) ≡ ones (2 ^ a) h m q % 2
   unfolding sumLabel
   sum-bit = label-is (λ b. ones b h m q % 2) (λ b. two-of (ones b h m q))
 
@@ -54,7 +50,7 @@ module _ (h m q : ℕ) where
   unfolding carryLabel
   carry-lt = label-lt (λ b. ones b h m q / 2) (λ b. over-two (h / b) (m / b) (q / b))
 
-  pub carry-bit : (a : ℕ) → a < 3 → bit a (carryLabel h m q) ≡ ones (2 ^ a) h m q / 2
+  pub carry-bit : (a : ℕ) → a < 3 → bitOf a (carryLabel h m q) ≡ ones (2 ^ a) h m q / 2
   unfolding carryLabel
   carry-bit = label-is (λ b. ones b h m q / 2) (λ b. over-two (h / b) (m / b) (q / b))
 
@@ -63,13 +59,13 @@ module _ (f g : ℕ) where
   unfolding joinLabel
   join-lt = label-lt (λ b. max (f / b % 2) (g / b % 2)) (λ b. max-two (f / b) (g / b))
 
-  pub join-bit : (a : ℕ) → a < 3 → bit a (joinLabel f g) ≡ max (bit a f) (bit a g)
+  pub join-bit : (a : ℕ) → a < 3 → bitOf a (joinLabel f g) ≡ max (bitOf a f) (bitOf a g)
   unfolding joinLabel
   join-bit = label-is (λ b. max (f / b % 2) (g / b % 2)) (λ b. max-two (f / b) (g / b))
 
 -- ---- which axes are used
 
-pub zero-bit : (a : ℕ) → bit a 0 ≡ 0
+pub zero-bit : (a : ℕ) → bitOf a 0 ≡ 0
 zero-bit a = ap (λ (n : ℕ). n % 2) (zero-div (2 ^ a))
 
 pub uses-none : (f : ℕ) → Uses f 0
@@ -85,7 +81,7 @@ uses-carry f h m q u a l = let x = u a l in omega (arith, carry-bit h m q a l, j
 
 -- a union that adds nothing
 pub uses-of : (f q : ℕ) → joinLabel f q ≡ f → Uses f q
-uses-of f q e a l = omega (arith, join-bit f q a l, ap (bit a) e)
+uses-of f q e a l = omega (arith, join-bit f q a l, ap (bitOf a) e)
 
 pub uses-join : (f q : ℕ) → f < 8 → Uses f q → joinLabel f q ≡ f
 uses-join f q h u = same-label (joinLabel f q) f (join-lt f q) h (λ a l. let x = u a l in omega (arith, join-bit f q a l))

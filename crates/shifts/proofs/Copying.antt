@@ -10,7 +10,7 @@ use Rattle.cells.specs.Cell.{start, span, proper, end}
 use Rattle.cells.proofs.Power.{le-or-lt}
 use Rattle.cells.proofs.Cells.{span-pos}
 use Rattle.records.specs.Record.{black}
-use Rattle.records.proofs.Lists.{held, before-cell, after-cell}
+use Rattle.records.proofs.Lists.{holds-between, before-cell, after-cell}
 use Rattle.records.proofs.Fault.{in-order}
 use Rattle.emit.specs.declared.inner.Runs.{Runs}
 use Rattle.emit.specs.Inner.{Ready, Next, Fed}
@@ -136,7 +136,7 @@ module _ {D n base from : ℕ} {l : List ℕ} {s : Slot} {out₀ : List ℕ} {r�
           black-leaf : (P : ℕ → Bool) → From D l base from (8 ^ n) P → (v : ℕ) → place ≤ v → v < place + span D leaf → P v ≡ true
           black-leaf P h v a b =
               h v (omega arith) (omega (arith, top))
-              ∙ black-at D l i (base + (v - from)) (omega (arith, x .part .leaves .within)) (held D leaf (base + (v - from)) (omega (arith, low)) (omega (arith, low)))
+              ∙ black-at D l i (base + (v - from)) (omega (arith, x .part .leaves .within)) (holds-between D leaf (base + (v - from)) (omega (arith, low)) (omega (arith, low)))
 
     pub copied-all : s .hi ≤ i → (P : ℕ → Bool) → From D l base from (8 ^ n) P → Fed D P from (from + 8 ^ n) out₀ r₀ out r
     copied-all g P h =

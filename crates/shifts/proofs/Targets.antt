@@ -22,7 +22,7 @@ use Rattle.records.specs.declared.inner.slots.Slot.{Slot}
 use Rattle.records.specs.declared.inner.slots.Tint.{Tint}
 use Rattle.shifts.proofs.Bits.{sum-lt, carry-lt, uses-none, uses-carry}
 use Rattle.shifts.proofs.Adder.{shifted-in, source-cell, need-carries, needs-level, carries-lt, carry-none, child-cell, root-cell, low-labels, need-none}
-use Rattle.records.proofs.Edges.{child-within, edge}
+use Rattle.records.proofs.Edges.{child-within, child-edge}
 use Rattle.records.proofs.SlotLaws.{slot-colour, eightOf, each-of-eight}
 
 -- ---- a target cell
@@ -110,7 +110,7 @@ child-aimed {D} {w} {l} {c} {p} {r} {s} {t} x h m v eh child place pick ready = 
   root = omega (arith, child-within m (8 ^ c .k) child, pow8-suc (c .k), x .root);
   axes = x .axes;
   cell = 8 * x .cell + m;
-  place = omega (arith, edge (x .cell) m (c .k), x .place);
+  place = omega (arith, child-edge (x .cell) m (c .k), x .place);
   slots = slots;
   ready = ready;
 }

@@ -9,7 +9,7 @@ use Rattle.cells.specs.Answer.{deepest}
 use Rattle.cells.specs.Cell.{level, proper, span}
 use Rattle.cells.proofs.Cells.{level-le}
 use Rattle.cells.proofs.Levels.{leading-proper}
-use Rattle.cells.proofs.Words.{wordBits, codes-fit, shifted}
+use Rattle.cells.proofs.Words.{wordBits, codes-fit, one-shifted}
 use Rattle.cells.proofs.inner.width.Statement.{statement}
 use Rattle.cells.proofs.inner.width.Tie as tie
 
@@ -21,7 +21,7 @@ shifted-span : (D c : ℕ) → D ≤ deepest → proper D c ≡ true → (1 * 2 
 unfolding span
 shifted-span D c h p =
     ap (λ (n : ℕ). (1 * 2 ^ n) % 2 ^ wordBits) (omega (arith, zeros D c h p))
-    ∙ shifted wordBits (D - level D c) (omega (arith, codes-fit (D - level D c) (omega arith)))
+    ∙ one-shifted wordBits (D - level D c) (omega (arith, codes-fit (D - level D c) (omega arith)))
 
 pub width-spec : {M : Type 1} → statement M
 width-spec = tie.close (tie.spec (λ c. search needs) (λ c. omega (arith, zeros (c .args .depth) (c .args .code) (c .pre .0) (c .pre .1))) (λ c. omega (arith, zeros (c .args .depth) (c .args .code) (c .pre .0) (c .pre .1))) (λ c. omega (arith, zeros (c .args .depth) (c .args .code) (c .pre .0) (c .pre .1))) (λ c. shifted-span (c .args .depth) (c .args .code) (c .pre .0) (c .pre .1)))

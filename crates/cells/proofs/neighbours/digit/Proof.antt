@@ -16,13 +16,13 @@ of-bits : (d z : ℤ) → SFits w32 d → SFits w32 z → ofZ w32 d ≡ ofZ w32 
 of-bits d z f g e = sym (toZ-ofZ w32 d f) ∙ ap (toZ w32) e ∙ toZ-ofZ w32 z g
 
 -- no step
-no-digit : (d : ℤ) → (d ≡ pos 0 → ⊥) → (d ≡ pos 1 → ⊥) → (d ≡ negsuc 0 → ⊥) → 3 ≡ digitOf d
+not-a-step : (d : ℤ) → (d ≡ pos 0 → ⊥) → (d ≡ pos 1 → ⊥) → (d ≡ negsuc 0 → ⊥) → 3 ≡ digitOf d
 unfolding digitOf
-no-digit (pos zero) a b c = absurd (a refl)
-no-digit (pos (suc zero)) a b c = absurd (b refl)
-no-digit (pos (suc (suc n))) a b c = refl
-no-digit (negsuc zero) a b c = absurd (c refl)
-no-digit (negsuc (suc n)) a b c = refl
+not-a-step (pos zero) a b c = absurd (a refl)
+not-a-step (pos (suc zero)) a b c = absurd (b refl)
+not-a-step (pos (suc (suc n))) a b c = refl
+not-a-step (negsuc zero) a b c = absurd (c refl)
+not-a-step (negsuc (suc n)) a b c = refl
 
 -- the three steps fit 32 bits
 fits-none : SFits w32 (pos 0)
@@ -49,7 +49,7 @@ returns-3 c = let s = c .before .before .before in ap digitOf (sym (of-bits (s .
 returns-4 : tie.Need-returns-4
 returns-4 c =
     let d = c .before .before .before .args .d in
-    no-digit d (λ e. c .before .before .if1 .left (ap (ofZ w32) e)) (λ e. c .before .if2 .left (ap (ofZ w32) e)) (λ e. c .if3 .left (ap (ofZ w32) e))
+    not-a-step d (λ e. c .before .before .if1 .left (ap (ofZ w32) e)) (λ e. c .before .if2 .left (ap (ofZ w32) e)) (λ e. c .if3 .left (ap (ofZ w32) e))
 
 pub digit-spec : {M : Type 1} → statement M
 digit-spec = tie.close (tie.spec returns returns-2 returns-3 returns-4)

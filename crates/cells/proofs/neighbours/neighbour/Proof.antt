@@ -22,7 +22,7 @@ use Rattle.cells.proofs.CornerLaws.{code-is, index-lt}
 use Rattle.cells.proofs.Bools.{clash}
 use Rattle.cells.proofs.Decisions.{passes, deep-enough}
 use Rattle.cells.proofs.Words.{wordBits, codes-fit, signed-axes}
-use Rattle.cells.proofs.Carries.{Progress, begins, ended, turned, room, finished}
+use Rattle.cells.proofs.Carries.{Progress, progress-begins, ended, turned, room, finished}
 use Rattle.cells.proofs.Steps.{stepped-sum}
 use Rattle.cells.proofs.NeighbourLaws.{found, missing}
 use Rattle.cells.proofs.neighbours.neighbour.Statement.{statement}
@@ -137,7 +137,7 @@ neighbour-spec =
     (λ c. let x = c .before .before in past x _ (inl (_, (directed x .bad (c .before .if3 .taken), refl), c .refusal3 .ensures)))
     (λ c.
     let q = c .before in
-    begins (k q) (i q) (d q) (code q) (code-is (D q) (code q) (is q)) (index-lt (D q) (code q) (is q)) (directed q .small))
+    progress-begins (k q) (i q) (d q) (code q) (code-is (D q) (code q) (is q)) (index-lt (D q) (code q) (is q)) (directed q .small))
     (λ c κs. search needs)
     returns-4
     (λ c κs. (omega arith, c .before .before .loop .inv .small))

@@ -10,22 +10,22 @@ use Rattle.emit.proofs.inner.fit.Statement.{statement}
 use Rattle.emit.proofs.inner.fit.Tie as tie
 
 -- Fit without its last part
-record Fits (p to w : ℕ) : Type 0 where
+record Fitting (p to w : ℕ) : Type 0 where
   k : ℕ
   q : ℕ
   wide : w ≡ 8 ^ k
   even : p ≡ q * w
   fits : p + w ≤ to
 
-some : {p to w : ℕ} → Fits p to w → 0 < w
+some : {p to w : ℕ} → Fitting p to w → 0 < w
 some f = omega (arith, pow8-pos (f .k), f .wide)
 
 -- the last part makes it a Fit
-most-fits : (p to w : ℕ) → Fits p to w → ((m : ℕ) → p ≡ m * (8 * w) → p + 8 * w ≤ to → ⊥) → Fit p to w
+most-fits : (p to w : ℕ) → Fitting p to w → ((m : ℕ) → p ≡ m * (8 * w) → p + 8 * w ≤ to → ⊥) → Fit p to w
 most-fits p to w f h = record { k = f .k; q = f .q; wide = f .wide; even = f .even; fits = f .fits; most = h }
 
 abbrev Inv-loop : tie.InvT-loop
-Inv-loop p to room w₀ w = Fits p to w
+Inv-loop p to room w₀ w = Fitting p to w
 
 abbrev μ-loop : tie.MeasureT-loop
 μ-loop p to room w₀ w = to - w

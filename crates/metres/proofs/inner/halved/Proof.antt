@@ -22,14 +22,14 @@ pow-small s h =
     let x : 2 ^ s ≤ 2 ^ 10 = pow-mono h in
     omega arith
 
-shifted : (s : ℕ) → s ≤ finest → 2 * 2 ^ s % 2 ^ 64 ≡ 2 * 2 ^ s
-shifted s h =
+two-shifted : (s : ℕ) → s ≤ finest → 2 * 2 ^ s % 2 ^ 64 ≡ 2 * 2 ^ s
+two-shifted s h =
     let x = pow-small s h in
     mod-eq-of-lt (omega arith)
 
-is-whole : (n : ℕ) → n ≤ 2 ^ 53 → T (inFloat binary64 (pos n))
+number-held : (n : ℕ) → n ≤ 2 ^ 53 → T (inFloat binary64 (pos n))
 unfolding inFloat
-is-whole n h = le→leb n (2 ^ 53) h
+number-held n h = le→leb n (2 ^ 53) h
 
 -- ---- how large a times 2^(s+1) is
 bounded : (n d s : ℕ) → n < 2 ^ 32 * d → s ≤ finest → 2 * n * 2 ^ s < 2 ^ 43 * d
@@ -40,35 +40,35 @@ bounded n d s h S =
 
 -- ---- what is known of a times 2^(s+1), where it stands
 -- what owning an `f64` tells: the format holds it
-held : (c : tie.Start) → T (fits binary64 (c .args .a))
-held c = subst T (sym (c .good .0 .1)) tt
+in-format : (c : tie.Start) → T (fits binary64 (c .args .a))
+in-format c = subst T (sym (c .good .0 .1)) tt
 
 abbrev product : tie.Start → Float
 product c = mul binary64 (c .args .a) (ofInt binary64 (pos (2 * 2 ^ (c .args .s) % 2 ^ 64)))
 
 -- its size, as a number of half voxels times `den a`
-abbrev size : tie.Start → ℕ
-size c = 2 * num (c .args .a) * 2 ^ (c .args .s)
+abbrev half-voxels : tie.Start → ℕ
+half-voxels c = 2 * num (c .args .a) * 2 ^ (c .args .s)
 
-value : (c : tie.Start) → HasValue (product c) false (size c) (den (c .args .a))
-value c = rw (shifted (c .args .s) (c .pre .0)) (scaled (c .args .a) (c .args .s) (c .pre .1 .0) (held c) (c .pre .1 .1) (c .pre .0))
+value : (c : tie.Start) → HasValue (product c) false (half-voxels c) (den (c .args .a))
+value c = rw (two-shifted (c .args .s) (c .pre .0)) (scaled (c .args .a) (c .args .s) (c .pre .1 .0) (in-format c) (c .pre .1 .1) (c .pre .0))
 
-below : (c : tie.Start) → size c < 2 ^ 43 * den (c .args .a)
-below c = bounded (num (c .args .a)) (den (c .args .a)) (c .args .s) (c .pre .1 .1) (c .pre .0)
+small-product : (c : tie.Start) → half-voxels c < 2 ^ 43 * den (c .args .a)
+small-product c = bounded (num (c .args .a)) (den (c .args .a)) (c .args .s) (c .pre .1 .1) (c .pre .0)
 
-below-64 : (c : tie.Start) → size c < 2 ^ 64 * den (c .args .a)
-below-64 c = omega (arith, below c)
+below-64 : (c : tie.Start) → half-voxels c < 2 ^ 64 * den (c .args .a)
+below-64 c = omega (arith, small-product c)
 
 -- the whole part that the call gave
-whole-is : (c : tie.After-truncating-f64-to-u64) → c .truncating-f64-to-u64 .result ≡ size (c .before .before) / den (c .before .before .args .a)
+whole-is : (c : tie.After-truncating-f64-to-u64) → c .truncating-f64-to-u64 .result ≡ half-voxels (c .before .before) / den (c .before .before .args .a)
 whole-is c =
     let start = c .before .before in
-    c .truncating-f64-to-u64 .ensures ∙ cut-is (product start) (size start) (den (start .args .a)) (value start) (den-pos (start .args .a)) (below-64 start)
+    c .truncating-f64-to-u64 .ensures ∙ cut-is (product start) (half-voxels start) (den (start .args .a)) (value start) (den-pos (start .args .a)) (below-64 start)
 
 whole-small : (c : tie.After-truncating-f64-to-u64) → c .truncating-f64-to-u64 .result ≤ 2 ^ 53
 whole-small c =
     let start = c .before .before in
-    let q : size start / den (start .args .a) < 2 ^ 43 = div-lt-iff-lt-mul (den-pos (start .args .a)) .1 (below start) in
+    let q : half-voxels start / den (start .args .a) < 2 ^ 43 = div-lt-iff-lt-mul (den-pos (start .args .a)) .1 (small-product start) in
     omega (arith, whole-is c)
 
 returns : tie.Need-returns
@@ -76,13 +76,13 @@ returns c =
     let start = c .before .before .before in
     let w = c .before .truncating-f64-to-u64 .result in
     let d = den (start .args .a) in
-    let e : w ≡ size start / d = whole-is (c .before) in
-    let sum : w * d + size start % d ≡ size start = rw e (div-add-mod' (size start) d) in
-    let r : size start % d < d = mod-lt (size start) (den-pos (start .args .a)) in
+    let e : w ≡ half-voxels start / d = whole-is (c .before) in
+    let sum : w * d + half-voxels start % d ≡ half-voxels start = rw e (div-add-mod' (half-voxels start) d) in
+    let r : half-voxels start % d < d = mod-lt (half-voxels start) (den-pos (start .args .a)) in
     record {
       least = omega arith;
       most = omega arith;
-      over = over-is (ofInt binary64 (pos w)) (product start) w (size start) d (whole-value w (whole-small (c .before))) (value start) (den-pos (start .args .a));
+      over = over-is (ofInt binary64 (pos w)) (product start) w (half-voxels start) d (whole-value w (whole-small (c .before))) (value start) (den-pos (start .args .a));
     }
 
 pub halved-spec : {M : Type 1} → statement M
@@ -90,10 +90,10 @@ halved-spec =
     tie.close
     (tie.spec
     (λ c. search needs)
-    (λ c. let s = c .before .args .s in let h = c .before .pre .0 in rw (shifted s h) (is-whole (2 * 2 ^ s) (le-trans (pow-small s h) (lit≤ tt))))
+    (λ c. let s = c .before .args .s in let h = c .before .pre .0 in rw (two-shifted s h) (number-held (2 * 2 ^ s) (le-trans (pow-small s h) (lit≤ tt))))
     (λ c κs.
     let start = c .before in
     let d = den (start .args .a) in
-    (above-minus-one (product start) (size start) d (value start), below-two-64 (product start) (size start) d (value start) (den-pos (start .args .a)) (below-64 start)))
-    (λ c. is-whole (c .before .truncating-f64-to-u64 .result) (whole-small (c .before)))
+    (above-minus-one (product start) (half-voxels start) d (value start), below-two-64 (product start) (half-voxels start) d (value start) (den-pos (start .args .a)) (below-64 start)))
+    (λ c. number-held (c .before .truncating-f64-to-u64 .result) (whole-small (c .before)))
     returns)

@@ -54,8 +54,8 @@ module _ (c : tie.After-last-reaches) where
   some e = reaches-true D l at (start D (s .args .m)) (sym tested ∙ e) .0
 
 -- leaves at a place, told with it
-told : (D : ℕ) (l : List ℕ) (m a n : ℕ) (r : Meeting) → (r .answer ≡ given a) × (r .at ≡ a) × (r .n ≡ n) → MetPart D l m a n → MetPart D l m (r .at) (r .n) × (r .answer ≡ given (r .at))
-told D l m a n r (e, f, g) p = (rw (f, g) p, e ∙ ap given (sym f))
+told-part : (D : ℕ) (l : List ℕ) (m a n : ℕ) (r : Meeting) → (r .answer ≡ given a) × (r .at ≡ a) × (r .n ≡ n) → MetPart D l m a n → MetPart D l m (r .at) (r .n) × (r .answer ≡ given (r .at))
+told-part D l m a n r (e, f, g) p = (rw (f, g) p, e ∙ ap given (sym f))
 
 pub part-spec : {M : Type 1} → statement M
 part-spec =
@@ -77,9 +77,9 @@ part-spec =
     (λ c.
     let t = c .before .before in
     let e = sym (tested t) ∙ c .before .if1 .taken in
-    told (D t) (l t) (s t .args .m) (at t - 1) (to t - (at t - 1)) _ (c .between .ensures) (part-before (D t) (l t) (s t .pre .1) (s t .args .m) (at t) (to t) (begins t) (ends t) e))
+    told-part (D t) (l t) (s t .args .m) (at t - 1) (to t - (at t - 1)) _ (c .between .ensures) (part-before (D t) (l t) (s t .pre .1) (s t .args .m) (at t) (to t) (begins t) (ends t) e))
     (λ c κs. ends (c .before) .low)
     (λ c.
     let t = c .before .before in
     let e = sym (tested t) ∙ c .before .if1 .left in
-    told (D t) (l t) (s t .args .m) (at t) (to t - at t) _ (c .between2 .ensures) (part-from (D t) (l t) (s t .pre .1) (s t .args .m) (at t) (to t) (begins t) (ends t) e)))
+    told-part (D t) (l t) (s t .args .m) (at t) (to t - at t) _ (c .between2 .ensures) (part-from (D t) (l t) (s t .pre .1) (s t .args .m) (at t) (to t) (begins t) (ends t) e)))

@@ -13,7 +13,7 @@ use Rattle.records.specs.Inner.{Starts}
 use Rattle.records.specs.Slot.{Of}
 use Rattle.records.specs.declared.inner.slots.Slot.{Slot}
 use Rattle.records.proofs.Arrays.{Prefix, prefix-none, prefix-more}
-use Rattle.records.proofs.Edges.{edge, edge-next, inside}
+use Rattle.records.proofs.Edges.{child-edge, edge-next, inside}
 use Rattle.records.proofs.SlotLaws.{Cut, cut-none, cut-next, cut-part, at-cell, slot-proper, slot-low}
 use Rattle.records.proofs.inner.slots.cut_slot.Statement.{statement}
 use Rattle.records.proofs.inner.slots.cut_slot.Tie as tie
@@ -36,7 +36,7 @@ loop-holds c = λ b y.
     let k = s .args .k in
     let e : c .cell-from .result ≡ b * 8 ^ suc k = c .cell-from .ensures b (rw (add-one k) y) ∙ ap (λ (n : ℕ). b * 8 ^ n) (add-one k) in
     record {
-      place = omega (arith, edge b 0 k, zero-mul (8 ^ k));
+      place = omega (arith, child-edge b 0 k, zero-mul (8 ^ k));
       cut = cut-none (at-cell (s .pre .0) y) (s .pre .1);
       filled = prefix-none _ _ 8 _ refl;
     }
@@ -56,7 +56,7 @@ add-v c =
     let m = c .before .loop .m in
     let top = within (a .depth) (getD (a .l .now) (a .s .lo) 0) (slot-proper x t _ (t .0)) in
     let child = inside m (a .k) (c .loop-test .taken) in
-    record { fits = omega (arith, known c .place, edge (x .cell) m (a .k), child, slot-low x t _ (omega arith) (t .0), top, pow8-small (a .depth) (x .source .deep), pow8-small (suc (a .k)) (omega (arith, x .level, x .source .deep)), c .before .before .before .pow8 .ensures) }
+    record { fits = omega (arith, known c .place, child-edge (x .cell) m (a .k), child, slot-low x t _ (omega arith) (t .0), top, pow8-small (a .depth) (x .source .deep), pow8-small (suc (a .k)) (omega (arith, x .level, x .source .deep)), c .before .before .before .pow8 .ensures) }
 
 loop-again : tie.Need-loop-again Inv-loop μ-loop
 loop-again c = λ b y.

@@ -13,11 +13,11 @@ use Rattle.shifts.proofs.inner.sources.split.Statement.{statement}
 use Rattle.shifts.proofs.inner.sources.split.Tie as tie
 
 -- row q has the parts of slot q, if that is needed, whatever cell it is of
-abbrev Row : ℕ → List ℕ → ℕ → ℕ → List Slot → ℕ → List Slot → Type 0
-Row D l k f t q p = Uses f q → (b : ℕ) → Of D l (suc k) b (slotAt t q) → (m : ℕ) → m < 8 → Of D l k (8 * b + m) (slotAt p m)
+abbrev Parted : ℕ → List ℕ → ℕ → ℕ → List Slot → ℕ → List Slot → Type 0
+Parted D l k f t q p = Uses f q → (b : ℕ) → Of D l (suc k) b (slotAt t q) → (m : ℕ) → m < 8 → Of D l k (8 * b + m) (slotAt p m)
 
 abbrev Inv-loop : tie.InvT-loop
-Inv-loop depth l k f t r₀ q₀ r q = Prefix (Row depth l k f t) [] 8 r q
+Inv-loop depth l k f t r₀ q₀ r q = Prefix (Parted depth l k f t) [] 8 r q
 
 abbrev μ-loop : tie.MeasureT-loop
 μ-loop depth l k f t r₀ q₀ r q = 8 - q
@@ -31,7 +31,7 @@ module _ (c : tie.Joined1 Inv-loop μ-loop) where
   start = at-loop .before .before
 
   abbrev row : ℕ → List Slot → Type 0
-  row = Row (start .args .depth) (start .args .l .now) (start .args .k) (start .args .f) (start .args .t5)
+  row = Parted (start .args .depth) (start .args .l .now) (start .args .k) (start .args .f) (start .args .t5)
 
   filled : Prefix row [] 8 (c .if1 .r) (at-loop .loop .q + 1)
   filled =
