@@ -24,9 +24,6 @@ each-true P e =
     let u = both-true (P 1) (P 2) (t .1) in
     each-axis _ (t .0) (u .0) (u .1)
 
-pub all-pass : (P : ℕ → Bool) → EachAxis (λ a. P a ≡ true) → allAxes P ≡ true
-all-pass P h = rw (h 0 (omega arith), h 1 (omega arith), h 2 (omega arith))
-
 pub some-false : (P : ℕ → Bool) → allAxes P ≡ false → (a : ℕ) × (a < 3) × (P a ≡ false)
 some-false P e =
     ⊎-elim (λ f. (0, omega arith, f)) (λ g. ⊎-elim (λ f. (1, omega arith, f)) (λ f. (2, omega arith, f)) (one-false (P 1) (P 2) g)) (one-false (P 0) (P 1 && P 2) e)

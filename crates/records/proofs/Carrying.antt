@@ -6,8 +6,7 @@ use mathlib.Core.Logic.{_↔_, _⊎_, ⊎-elim}
 use mathlib.Core.List.{List}
 use Prim.Native.Nat.{ℕ, _^_, _<_}
 use lib.IntN.{ℤ}
-use lib.ListN.{length, getD}
-use Rattle.cells.specs.Cell.{holds}
+use lib.ListN.{getD}
 use Rattle.cells.specs.Place.{Came}
 use Rattle.cells.specs.declared.Answer.{Answer}
 use Rattle.cells.proofs.Bools.{clash, same-truth}
@@ -16,8 +15,8 @@ use Rattle.cells.proofs.Displacements.{one-came, came-once}
 use Rattle.records.specs.Record.{black, Good, ListOf}
 use Rattle.records.specs.Carried.{FromBlack, Straying}
 use Rattle.records.proofs.Lists.{black-in-root}
-use Rattle.records.proofs.Leaves.{member-black, leaf-of}
-use Rattle.records.proofs.Fault.{member-at, index-of}
+use Rattle.records.proofs.Leaves.{member-black}
+use Rattle.records.proofs.Fault.{member-at}
 use Rattle.records.proofs.Counting.{count-bijection}
 use Rattle.records.proofs.Volumes.{blacks}
 
@@ -34,10 +33,6 @@ displacing D d = record { root = λ u v c. c .root; one-target = one-came D d; o
 -- every black voxel of l is carried somewhere
 abbrev pub Accepted : ℕ → (ℕ → ℕ → Type 0) → List ℕ → Type 0
 Accepted D R l = (u : ℕ) → black D l u ≡ true → (v : ℕ) × R u v
-
--- where each voxel of each leaf is, they are
-pub leaves-accepted : (D : ℕ) (R : ℕ → ℕ → Type 0) (l : List ℕ) → ((i : ℕ) → i < length l → (u : ℕ) → holds D (getD l i 0) u ≡ true → (v : ℕ) × R u v) → Accepted D R l
-leaves-accepted D R l each u b = let (c, m, h) = leaf-of D l u b in let (i, k, e) = index-of c l m in each i k u (rw e h)
 
 -- then no leaf strays
 pub accepted-passes : (D : ℕ) (R : ℕ → ℕ → Type 0) (l : List ℕ) → Accepted D R l → (a : Answer) → Straying D R l a → ⊥
