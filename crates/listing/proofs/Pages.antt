@@ -19,9 +19,9 @@ use Rattle.blocks.specs.Inner.{Sound}
 use Rattle.blocks.specs.declared.Reading.{Reading}
 use Rattle.blocks.proofs.Sound.{all-blocks, codes-most, one-unsound, not-unsound}
 use Rattle.text.specs.Text.{pathLines, textOf, TextOf, refusedText, RefusedOf}
-use Rattle.text.specs.Inner.{longestHead, longestPath, longestRefusal, headLine}
+use Rattle.text.specs.Inner.{longestHead, longestPath, headLine}
 use Rattle.text.proofs.CallLaws.{one-text, one-refused}
-use Rattle.text.proofs.Digits.{paths-length, head-length, refused-length}
+use Rattle.text.proofs.Digits.{paths-length, head-length, longestRefusal, refused-length}
 use Rattle.listing.specs.Listing.{longest, mostCodes, refusedLine, Printed, Page}
 
 -- ---- room

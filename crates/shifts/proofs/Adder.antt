@@ -12,7 +12,7 @@ use Rattle.cells.proofs.Power.{pow8-pos, pow8-suc}
 use Rattle.cells.proofs.Labelwise.{labelwise}
 use Rattle.records.specs.Record.{black}
 use Rattle.shifts.specs.LabelSums.{sumLabel, carryLabel, Uses}
-use Rattle.shifts.specs.Shift.{shift, shifted, carry, cellOf, need}
+use Rattle.shifts.specs.Shift.{shift, shifted, cellOf, need}
 use Rattle.shifts.proofs.Bits.{same-label, zero-bit, sum-lt, sum-bit, carry-lt, carry-bit, join-lt, join-bit, uses-none, none-used, uses-carry}
 
 -- ---- along an axis the shift is a sum, with what is lost out of the first label
@@ -65,6 +65,11 @@ pub need-lt : (n w : ℕ) → need n w < 8
 unfolding need
 need-lt zero w = omega arith
 need-lt (suc n) w = join-lt (need n w) (w / 8 ^ n % 8)
+
+-- the label that the last n labels of w and v carry out
+unfoldable pub carry : ℕ → ℕ → ℕ → ℕ
+carry zero w v = 0
+carry (suc n) w v = carryLabel (w / 8 ^ n % 8) (v / 8 ^ n % 8) (carry n w v)
 
 pub need-carries : (n w v : ℕ) → Uses (need n w) (carry n w v)
 unfolding need carry

@@ -14,14 +14,14 @@ use Rattle.records.proofs.Search.{proper-at}
 use Rattle.emit.specs.Inner.{Ready, fresh}
 use Rattle.emit.specs.declared.inner.Runs.{Runs}
 use Rattle.shifts.specs.LabelSums.{sumLabel, carryLabel, Uses}
-use Rattle.shifts.specs.Shift.{shift, carry, cellOf, need, shifted}
+use Rattle.shifts.specs.Shift.{shift, cellOf, need, shifted}
 use Rattle.records.specs.Slot.{Source, Of, tintOf, slotAt}
 use Rattle.shifts.specs.Descent.{Slots, OfCells, Divided, SlotsTint, Copying, Copies, Aimed, Divides, partAt}
 use Rattle.shifts.specs.declared.inner.descent.Target.{Target}
 use Rattle.records.specs.declared.inner.slots.Slot.{Slot}
 use Rattle.records.specs.declared.inner.slots.Tint.{Tint}
 use Rattle.shifts.proofs.Bits.{sum-lt, carry-lt, uses-none, uses-carry}
-use Rattle.shifts.proofs.Adder.{shifted-in, source-cell, need-carries, needs-level, carries-lt, carry-none, child-cell, root-cell, low-labels, need-none}
+use Rattle.shifts.proofs.Adder.{carry, shifted-in, source-cell, need-carries, needs-level, carries-lt, carry-none, child-cell, root-cell, low-labels, need-none}
 use Rattle.records.proofs.Edges.{child-within, child-edge}
 use Rattle.records.proofs.SlotLaws.{slot-colour, eightOf, each-of-eight}
 

@@ -16,11 +16,6 @@ shift (suc n) w q v = 8 * shift n (w / 8) (carryLabel (w % 8) (v % 8) q) (v / 8)
 unfoldable pub shifted : ℕ → List ℕ → ℕ → ℕ → Bool
 shifted D l w v = ltb v (8 ^ D) && black D l (shift D w 0 v)
 
--- the label that the last n labels of w and v carry out
-unfoldable pub carry : ℕ → ℕ → ℕ → ℕ
-carry zero w v = 0
-carry (suc n) w v = carryLabel (w / 8 ^ n % 8) (v / 8 ^ n % 8) (carry n w v)
-
 -- the source cell in slot q of the target cell of number c with n levels left: where its voxels that carry q come from
 unfoldable pub cellOf : ℕ → ℕ → ℕ → ℕ → ℕ → ℕ
 cellOf D w n c q = shift (D - n) (w / 8 ^ n) q c

@@ -14,7 +14,7 @@ use Rattle.cells.specs.Cell.{level, proper, index}
 use Rattle.cells.proofs.Power.{pow8-pos, pow8-suc}
 use Rattle.cells.proofs.Cells.{level-le, proper-bounds}
 use Rattle.text.specs.Text.{digits, labels, pathLines, refusedText}
-use Rattle.text.specs.Inner.{Put, longestHead, longestPath, longestRefusal, Labelled, headLine, pathLine}
+use Rattle.text.specs.Inner.{Put, longestNumber, longestHead, longestPath, Labelled, headLine, pathLine}
 use Rattle.text.proofs.Puts.{put-append, put-as}
 
 -- ---- a number in decimal
@@ -108,6 +108,10 @@ paths-more D l i h =
 
 pub head-length : (D n v : ℕ) → length (headLine D n v) ≤ longestHead
 head-length D n v = simp length-append (omega (arith, digits-length 10 19 D, digits-length 10 19 n, digits-length 10 19 v))
+
+-- "refused " and " ", a number after each, and the line's end
+abbrev pub longestRefusal : ℕ
+longestRefusal = 8 + 1 + 2 * longestNumber + 1
 
 pub refused-length : (n p : ℕ) → length (refusedText n p) ≤ longestRefusal
 unfolding refusedText

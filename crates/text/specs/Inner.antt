@@ -13,7 +13,7 @@ pub record Put (o : List ℕ) (at : ℕ) (l after : List ℕ) (r : ℕ) : Type 0
   pub place : r ≡ at + length l
 
 -- the bytes of each part at most: a number of 64 bits in decimal; the labels of a code of 32 bits; "depth ", " leaves " and " volume ", a number after each, and
--- the line's end; r, the labels and the line's end; "refused " and " ", a number after each, and the line's end
+-- the line's end; r, the labels and the line's end
 abbrev pub longestNumber : ℕ
 longestNumber = 20
 
@@ -25,9 +25,6 @@ longestHead = 6 + 8 + 8 + 3 * longestNumber + 1
 
 abbrev pub longestPath : ℕ
 longestPath = 1 + longestLabels + 1
-
-abbrev pub longestRefusal : ℕ
-longestRefusal = 8 + 1 + 2 * longestNumber + 1
 
 -- the code c is r followed by k labels, i in base 8
 abbrev pub Labelled : ℕ → ℕ → ℕ → Type 0
