@@ -6,7 +6,7 @@ use mathlib.Core.List.{List, [], _∷_}
 use Prim.Native.Nat.{ℕ, zero, suc, _+_, _-_, _%_, _^_, _≤_, _<_}
 use lib.Dec.{leb, eqb}
 use lib.ListN.{getD, length}
-use Rattle.cells.specs.Answer.{given, Decided, alone, First}
+use Rattle.cells.specs.Answer.{given, Decided, alone, deepest, First}
 use Rattle.cells.specs.Cell.{span, end}
 use Rattle.cells.specs.declared.Answer.{Answer}
 use Rattle.records.specs.Fault.{fault, Faulty}
@@ -45,6 +45,13 @@ pub record Faultless (D : ℕ) (l : List ℕ) (i : ℕ) (w : Walk) : Type 0 wher
   pub few : w .sum ≤ w .past
   pub count : i ≤ w .past
   pub within : w .past ≤ 8 ^ D
+
+-- a walk that can go on: no fault yet, in a root that is not too deep
+pub record Underway (D : ℕ) (w : Walk) : Type 0 where
+  pub deep : D ≤ deepest
+  pub list : List ℕ
+  pub index : ℕ
+  pub kept : Faultless D list index w
 
 -- w has passed the first i leaves of l up to the first that has a fault: its index and the number of its fault, or what is kept of all i
 pub record Walked (D : ℕ) (l : List ℕ) (i : ℕ) (w : Walk) : Type 0 where

@@ -14,7 +14,7 @@ ghost use lib.ListN.{length, getD};
 ghost use Rattle.cells.specs.Answer.{deepest};
 ghost use Rattle.records.specs.Record.{Ordered};
 ghost use Rattle.records.specs.Inner.{Searchable, Starts, reaches};
-ghost use Rattle.records.specs.Walk.{nextRun, Faultless, Walked, JudgedOf};
+ghost use Rattle.records.specs.Walk.{nextRun, Faultless, Underway, Walked, JudgedOf};
 
 // What is kept of the leaves passed: the number of the fault that ended the walk, 0 while there is none; how many leaves it passed; the last one's code;
 // the voxel number after it; how many siblings in a row end with it; the voxels of all.
@@ -74,7 +74,7 @@ fn next_run(last: u32, run: u32, code: u32) -> u32
 
 // A leaf more. The tests are those of document 01, in its order, on what is kept of the leaves before.
 pub fn step(depth: u32, walk: Walk, code: u32) -> Walk
-    requires { ⌜ (depth ≤ deepest) × ((l : List ℕ) × (i : ℕ) × Faultless depth l i walk) ⌝ }
+    requires { ⌜ Underway depth walk ⌝ }
     ensures { λ r. ⌜ ((l : List ℕ) (i : ℕ) → Faultless depth l i walk → getD l i 0 ≡ code → Walked depth l (i + 1) r) ⌝ }
 {
     let passed = walk.passed;

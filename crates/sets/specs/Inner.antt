@@ -4,6 +4,7 @@ use mathlib.Core.List.{List}
 use mathlib.Core.Bool.{Bool, true, false, not, _&&_, _||_}
 use Prim.Native.Nat.{ℕ, _^_, _<_, _≤_}
 use lib.ListN.{drop}
+use Rattle.cells.specs.Answer.{deepest}
 use Rattle.records.specs.Record.{black, Ordered}
 use Rattle.sets.specs.declared.Op.{Op}
 use Rattle.sets.specs.declared.Op.the-variants.{Join, Intersect, Subtract}
@@ -34,6 +35,14 @@ pub record Points (D : ℕ) (l : List ℕ) (c : Cursor) (v : ℕ) : Type 0 where
   pub before : (w : ℕ) → v ≤ w → w < c .from → black D l w ≡ false
   pub inside : (w : ℕ) → c .from ≤ w → w < c .to → black D l w ≡ true
   pub behind : Behind D l (c .at) (c .to)
+
+-- c, the cursor from some voxel on, can come up to voxel `next`
+pub record Passing (D : ℕ) (l : List ℕ) (c : Cursor) (next : ℕ) : Type 0 where
+  pub deep : D ≤ deepest
+  pub reach : next ≤ c .to
+  pub from : ℕ
+  pub forth : from ≤ next
+  pub points : Points D l c from
 
 -- from v up to `until`, which the leaf of c reaches, the list l is of one colour
 pub record Steady (D : ℕ) (l : List ℕ) (c : Cursor) (v : ℕ) (s : Side) : Type 0 where

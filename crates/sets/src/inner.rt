@@ -17,7 +17,7 @@ ghost use Rattle.records.specs.Record.{Ordered};
 ghost use Rattle.records.specs.Writing.{WritesListOf};
 ghost use Rattle.emit.specs.Inner.{Result};
 ghost use Rattle.sets.specs.Sets.{InResult};
-ghost use Rattle.sets.specs.Inner.{chosen, both, Behind, Points, Steady};
+ghost use Rattle.sets.specs.Inner.{chosen, both, Behind, Points, Passing, Steady};
 
 // A leaf of a list: the index where the list goes on after it, its least voxel number and the one after its last. Past the last leaf both are the root's end.
 pub struct Cursor {
@@ -79,7 +79,7 @@ fn load(depth: u32, list: &[u32], i: usize) -> Cursor
 
 // The cursor from voxel `next` on, up to which it has come: the same, or the next leaf where this one ends.
 fn pass(depth: u32, list: &[u32], c: Cursor, next: u32) -> Cursor
-    requires { ⌜ (depth ≤ deepest) × (next ≤ c .to) × ((v : ℕ) × (v ≤ next) × Points depth (now list) c v) ⌝ }
+    requires { ⌜ Passing depth (now list) c next ⌝ }
     ensures { λ r. ⌜ Points depth (now (list .entry)) r next ⌝ }
 {
     if next < c.to {

@@ -20,6 +20,6 @@ main-spec =
     (λ c. search needs) (λ c κs. search needs) (λ c. search needs) (λ c κs. search needs) (λ c. search needs) (λ c. search needs) (λ c. search needs)
     (λ c. search needs) (λ c. search needs) (λ c κs. search needs)
     (λ c. within (c .before .before))
-    (λ c. let p = c .before .before .before in sym (length-take-le (p .page .result) (p .page .last .1 .1 .0) (within p)))
+    (λ c. let at-page = c .before .before .before in sym (length-take-le (at-page .page .result) (at-page .page .last .1 .1 .0) (within at-page)))
     (λ c κs. search needs)
     (λ c. search needs))

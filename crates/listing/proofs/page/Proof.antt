@@ -20,62 +20,62 @@ use Rattle.listing.proofs.page.Tie as tie
 
 returns : tie.Need-returns
 returns c =
-    let r = c .before .before in
-    let t = r .before .before in
-    let d = t .before .before .before .before in
-    let s = d .before .before .before .before .before in
-    let a = d .read .result .answer in
-    let o = s .args .text .now in
-    page-of (s .args .bytes .now) o (refusedText (a .number) (a .place)) (r .refused-text .result) _
-    (refused-printed (s .args .bytes .now) (s .args .codes .now) (d .read .result) _ (d .read .ensures) (t .if1 .taken) (s .pre .0) (s .pre .1))
-    (refused-left (a .number) (a .place) o (r .refused-text .result) _ (r .refused-text .ensures) (omega (arith, s .pre .2)))
+    let at-refused-text = c .before .before in
+    let at-if1 = at-refused-text .before .before in
+    let at-read = at-if1 .before .before .before .before in
+    let start = at-read .before .before .before .before .before in
+    let a = at-read .read .result .answer in
+    let o = start .args .text .now in
+    page-of (start .args .bytes .now) o (refusedText (a .number) (a .place)) (at-refused-text .refused-text .result) _
+    (refused-printed (start .args .bytes .now) (start .args .codes .now) (at-read .read .result) _ (at-read .read .ensures) (at-if1 .if1 .taken) (start .pre .0) (start .pre .1))
+    (refused-left (a .number) (a .place) o (at-refused-text .refused-text .result) _ (at-refused-text .refused-text .ensures) (omega (arith, start .pre .2)))
 
 -- ---- a good file
 
 module _ (c : tie.Else1) where
-  abbrev d : tie.After-read
-  d = c .before .before .before .before
+  abbrev at-read : tie.After-read
+  at-read = c .before .before .before .before
 
-  abbrev s : tie.Start
-  s = d .before .before .before .before .before
+  abbrev start : tie.Start
+  start = at-read .before .before .before .before .before
 
   abbrev b : List ℕ
-  b = s .args .bytes .now
+  b = start .args .bytes .now
 
-  none : d .read .result .answer .number ≡ 0
+  none : at-read .read .result .answer .number ≡ 0
   none = search needs
 
-  file : ReadSuccess b (s .args .codes .now) (d .read .result) (d .read .last .1 .0)
-  file = read-success b (s .args .codes .now) (d .read .result) _ (d .read .ensures) none
+  file : ReadSuccess b (start .args .codes .now) (at-read .read .result) (at-read .read .last .1 .0)
+  file = read-success b (start .args .codes .now) (at-read .read .result) _ (at-read .read .ensures) none
 
   -- the codes read are the file's
-  is-place : d .read .result .answer .place ≡ length (codes b)
+  is-place : at-read .read .result .answer .place ≡ length (codes b)
   is-place = ap (λ (t : Reading × List ℕ). t .0 .answer .place) (file .is-left)
 
-  is-depth : d .read .result .depth ≡ depthOf b
+  is-depth : at-read .read .result .depth ≡ depthOf b
   is-depth = ap (λ (t : Reading × List ℕ). t .0 .depth) (file .is-left)
 
-  front : take (d .read .result .answer .place) (d .read .last .1 .0) ≡ codes b
-  front = ap₂ take is-place (ap (λ (t : Reading × List ℕ). t .1) (file .is-left)) ∙ take-append-seam (codes b) (drop (length (codes b)) (s .args .codes .now))
+  front : take (at-read .read .result .answer .place) (at-read .read .last .1 .0) ≡ codes b
+  front = ap₂ take is-place (ap (λ (t : Reading × List ℕ). t .1) (file .is-left)) ∙ take-append-seam (codes b) (drop (length (codes b)) (start .args .codes .now))
 
   -- they fit
   few : length (codes b) ≤ mostCodes
-  few = few-codes b (file .is-sound) (s .pre .0)
+  few = few-codes b (file .is-sound) (start .pre .0)
 
-  room : d .read .result .answer .place ≤ length (d .read .last .1 .0)
-  room = omega (arith, is-place, few, s .pre .1, d .read .kept .1 .0)
+  room : at-read .read .result .answer .place ≤ length (at-read .read .last .1 .0)
+  room = omega (arith, is-place, few, start .pre .1, at-read .read .kept .1 .0)
 
 returns-2 : tie.Need-returns-2
 returns-2 c =
-    let l = c .before .before in
-    let e = l .before .before .before in
-    let o = s e .args .text .now in
-    let D = depthOf (b e) in
-    let k = codes (b e) in
-    let w : TextOf D k o (l .list-text .result) (l .list-text .last .1 .1 .0) = rw (is-depth e, front e) at (l .list-text .ensures) in
-    let h = shallow-file (b e) (file e .is-sound) in
-    page-of (b e) o (textOf D k) (l .list-text .result) _ (inr (sound-passes (b e) (file e .is-sound), inr (good-passes D k 1 (file e .good), refl)))
-    (text-left D k o (l .list-text .result) _ w h (file e .good) (omega (arith, text-length D k h, few e, s e .pre .2)))
+    let at-list-text = c .before .before in
+    let else1 = at-list-text .before .before .before in
+    let o = start else1 .args .text .now in
+    let D = depthOf (b else1) in
+    let k = codes (b else1) in
+    let w : TextOf D k o (at-list-text .list-text .result) (at-list-text .list-text .last .1 .1 .0) = rw (is-depth else1, front else1) at (at-list-text .list-text .ensures) in
+    let h = shallow-file (b else1) (file else1 .is-sound) in
+    page-of (b else1) o (textOf D k) (at-list-text .list-text .result) _ (inr (sound-passes (b else1) (file else1 .is-sound), inr (good-passes D k 1 (file else1 .good), refl)))
+    (text-left D k o (at-list-text .list-text .result) _ w h (file else1 .good) (omega (arith, text-length D k h, few else1, start else1 .pre .2)))
 
 pub page-spec : {M : Type 1} → statement M
 page-spec =
@@ -84,6 +84,6 @@ page-spec =
     (λ c κs. search needs) (λ c κs. search needs) (λ c. search needs) (λ c. search needs)
     returns
     (λ c. room c)
-    (λ c. let e = c .before in sym (length-take-le (d e .read .result .answer .place) (d e .read .last .1 .0) (room e)))
+    (λ c. let else1 = c .before in sym (length-take-le (at-read else1 .read .result .answer .place) (at-read else1 .read .last .1 .0) (room else1)))
     (λ c κs. search needs) (λ c. search needs) (λ c. search needs)
     returns-2)

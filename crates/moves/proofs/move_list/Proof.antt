@@ -19,19 +19,19 @@ use Rattle.moves.proofs.move_list.Tie as tie
 -- ---- past the tests of the list
 
 module _ (c : tie.Else1) where
-  abbrev s : tie.Start
-  s = c .before .before .before .before
+  abbrev start : tie.Start
+  start = c .before .before .before .before
 
   none : c .before .check .result .number ≡ 0
   none = search needs
 
-  pass : Checked (s .args .depth) (s .args .list .now) (c .before .check .result .place)
-  pass = opening-known (checks (s .args .depth) (s .args .list .now)) (c .before .check .result) (c .before .check .ensures) none
+  pass : Checked (start .args .depth) (start .args .list .now) (c .before .check .result .place)
+  pass = opening-known (checks (start .args .depth) (start .args .list .now)) (c .before .check .result) (c .before .check .ensures) none
 
-  next : (t : Answer × List ℕ) {m : Move} → s .args .m ≡ m → Decided (keeping (s .args .out .now)) (moveTests m) (ByVoxels (s .args .depth) (s .args .list .now) m (s .args .out .now)) t
-      → MoveOf (s .args .depth) (s .args .list .now) (s .args .m) (s .args .out .now) (t .0) (t .1)
+  next : (t : Answer × List ℕ) {m : Move} → start .args .m ≡ m → Decided (keeping (start .args .out .now)) (moveTests m) (ByVoxels (start .args .depth) (start .args .list .now) m (start .args .out .now)) t
+      → MoveOf (start .args .depth) (start .args .list .now) (start .args .m) (start .args .out .now) (t .0) (t .1)
   next t {m} is d =
-      let a = s .args in
+      let a = start .args in
       subst (λ (n : Move). MoveOf (a .depth) (a .list .now) n (a .out .now) (t .0) (t .1)) (sym is)
       (opening-passes (checks (a .depth) (a .list .now)) (c .before .check .result) (c .before .check .ensures) (keeping (a .out .now)) (moveTests m) (ByVoxels (a .depth) (a .list .now) m (a .out .now)) t none d)
 
@@ -41,11 +41,11 @@ module _ (c : tie.Else1) where
 returns-2 : tie.Need-returns-2
 returns-2 c =
     let w = c .before .before .move-whole in
-    let t = c .before .before .before .before .before in
-    let a = s (t .before .before) .args in
+    let at-m = c .before .before .before .before .before in
+    let a = start (at-m .before .before) .args in
     let (f, (g, (h, _))) = c .before .before .before .before .known-told .given in
     let left : Answer × List ℕ = (w .result, w .last .1 .1 .1 .1 .1 .0) in
-    next (t .before .before) left (t .m .given .1) (
+    next (at-m .before .before) left (at-m .m .given .1) (
       _,
       _,
       _,
@@ -59,9 +59,9 @@ move-list-spec =
     (tie.spec
     (λ c κs. search needs)
     (λ c.
-    let t = c .before in
-    let a = t .before .before .before .args in
-    opening-refuses (checks (a .depth) (a .list .now)) (t .check .result) (t .check .ensures) (keeping (a .out .now)) (moveTests (a .m)) (ByVoxels (a .depth) (a .list .now) (a .m) (a .out .now)) (c .if1 .taken))
+    let at-check = c .before in
+    let a = at-check .before .before .before .args in
+    opening-refuses (checks (a .depth) (a .list .now)) (at-check .check .result) (at-check .check .ensures) (keeping (a .out .now)) (moveTests (a .m)) (ByVoxels (a .depth) (a .list .now) (a .m) (a .out .now)) (c .if1 .taken))
     (λ c. search needs)
     (λ c κs. let k = pass (c .before .before .before .before) in (k .shallow, k .good .ordered))
     (λ c. search needs)
@@ -71,5 +71,5 @@ move-list-spec =
     (λ c. search needs)
     (λ c.
     let w = c .before .before .move-metres in
-    let t = c .before .before .before .before .before in
-    next (t .before .before) (w .result, w .last .1 .1 .1 .0) (t .m2 .given .1) (w .ensures)))
+    let at-m2 = c .before .before .before .before .before in
+    next (at-m2 .before .before) (w .result, w .last .1 .1 .1 .0) (at-m2 .m2 .given .1) (w .ensures)))

@@ -17,24 +17,24 @@ use Rattle.moves.proofs.move_metres.Tie as tie
 
 returns : tie.Need-returns
 returns c =
-    let t = c .before .before in
-    let v = t .before .before in
-    let a = v .before .before .before .args in
-    let p = t .taken .given .0 .0 in
+    let at-taken = c .before .before in
+    let at-in-voxels = at-taken .before .before in
+    let a = at-in-voxels .before .before .before .args in
+    let p = at-taken .taken .given .0 .0 in
     let P : Answer × List ℕ → Type 0 = ByVoxels (a .depth) (a .list .now) (the-move.Metres (a .d)) (a .out .now) in
-    let told : TakenOf (a .d) (Bad p) = subst (TakenOf (a .d)) (t .taken .given .1) (v .in-voxels .ensures) in
+    let told : TakenOf (a .d) (Bad p) = subst (TakenOf (a .d)) (at-taken .taken .given .1) (at-in-voxels .in-voxels .ensures) in
     subst (λ (r : Answer). Decided (keeping (a .out .now)) (moveTests (the-move.Metres (a .d))) P (r, a .out .now)) (sym (c .refusal .ensures))
     (bad-decides (keeping (a .out .now)) P (a .d) p told)
 
 returns-2 : tie.Need-returns-2
 returns-2 c =
     let w = c .before .before .move-whole in
-    let t = c .before .before .before .before .before in
+    let at-taken2 = c .before .before .before .before .before in
     let f = c .before .before .before .before .known-told2 .given in
-    let v = t .before .before in
-    let a = v .before .before .before .args in
-    let g = t .taken2 .given .0 in
-    let told : TakenOf (a .d) (Voxels (g .0) (g .1 .0) (g .1 .1 .0)) = subst (TakenOf (a .d)) (t .taken2 .given .1) (v .in-voxels .ensures) in
+    let at-in-voxels = at-taken2 .before .before in
+    let a = at-in-voxels .before .before .before .args in
+    let g = at-taken2 .taken2 .given .0 in
+    let told : TakenOf (a .d) (Voxels (g .0) (g .1 .0) (g .1 .1 .0)) = subst (TakenOf (a .d)) (at-taken2 .taken2 .given .1) (at-in-voxels .in-voxels .ensures) in
     let left : Answer × List ℕ = (w .result, w .last .1 .1 .1 .1 .1 .0) in
     let P : Answer × List ℕ → Type 0 = ByVoxels (a .depth) (a .list .now) (the-move.Metres (a .d)) (a .out .now) in
     whole-decides (keeping (a .out .now)) P (a .d) (g .0) (g .1 .0) (g .1 .1 .0) left told

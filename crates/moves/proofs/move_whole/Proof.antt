@@ -29,12 +29,12 @@ use Rattle.moves.proofs.move_whole.Tie as tie
 -- ---- acceptance
 
 module _ (c : tie.After-first-stray) where
-  abbrev s : tie.Start
-  s = c .before .before .before .before .before .before
+  abbrev start : tie.Start
+  start = c .before .before .before .before .before .before
 
   -- the displacement, and the parts of it that were worked out
   abbrev d : ℕ → ℤ
-  d = axes (s .args .dx) (s .args .dy) (s .args .dz)
+  d = axes (start .args .dx) (start .args .dy) (start .args .dz)
 
   abbrev p : ℕ → Parted
   p = axes (c .before .before .before .part .result) (c .before .before .part2 .result) (c .before .part3 .result)
@@ -43,52 +43,52 @@ module _ (c : tie.After-first-stray) where
   split : EachAxis (λ a. Splits (d a) (p a))
   split =
       each-axis (λ a. Splits (d a) (p a))
-      (subst (λ (z : ℤ). Splits z (p 0)) (toZ-ofZ w32 (s .args .dx) (s .fits .dx)) (c .before .before .before .part .ensures))
-      (subst (λ (z : ℤ). Splits z (p 1)) (toZ-ofZ w32 (s .args .dy) (s .fits .dy)) (c .before .before .part2 .ensures))
-      (subst (λ (z : ℤ). Splits z (p 2)) (toZ-ofZ w32 (s .args .dz) (s .fits .dz)) (c .before .part3 .ensures))
+      (subst (λ (z : ℤ). Splits z (p 0)) (toZ-ofZ w32 (start .args .dx) (start .fits .dx)) (c .before .before .before .part .ensures))
+      (subst (λ (z : ℤ). Splits z (p 1)) (toZ-ofZ w32 (start .args .dy) (start .fits .dy)) (c .before .before .part2 .ensures))
+      (subst (λ (z : ℤ). Splits z (p 2)) (toZ-ofZ w32 (start .args .dz) (start .fits .dz)) (c .before .part3 .ensures))
 
 module _ (e : tie.Else1) where
-  abbrev b : tie.Start
-  b = s (e .before)
+  abbrev at-start : tie.Start
+  at-start = start (e .before)
 
   -- where the voxels are carried
   abbrev R : ℕ → ℕ → Type 0
-  R = Came (b .args .depth) (d (e .before))
+  R = Came (at-start .args .depth) (d (e .before))
 
-  accepted : Accepted (b .args .depth) R (b .args .list .now)
+  accepted : Accepted (at-start .args .depth) R (at-start .args .list .now)
   accepted =
-      let a = b .args in
-      all-stay (a .depth) (d (e .before)) (p (e .before)) (split (e .before)) (a .list .now) (b .pre .1) (stops-never (e .before .first-stray .ensures) (e .if1 .left))
+      let a = at-start .args in
+      all-stay (a .depth) (d (e .before)) (p (e .before)) (split (e .before)) (a .list .now) (at-start .pre .1) (stops-never (e .before .first-stray .ensures) (e .if1 .left))
 
   -- the shift back gives the displaced voxels
-  voxels : (w : ℕ) → w ≡ back (b .args .depth) (p (e .before))
-      → (v : ℕ) → v < 8 ^ b .args .depth → (shifted (b .args .depth) (b .args .list .now) w v ≡ true) ↔ FromBlack (b .args .depth) R (b .args .list .now) v
+  voxels : (w : ℕ) → w ≡ back (at-start .args .depth) (p (e .before))
+      → (v : ℕ) → v < 8 ^ at-start .args .depth → (shifted (at-start .args .depth) (at-start .args .list .now) w v ≡ true) ↔ FromBlack (at-start .args .depth) R (at-start .args .list .now) v
   voxels w is v h =
-      let a = b .args in
-      rw is (shifted-exactly (a .depth) (d (e .before)) (p (e .before)) (split (e .before)) (a .list .now) (b .pre .1) accepted v h)
+      let a = at-start .args in
+      rw is (shifted-exactly (a .depth) (d (e .before)) (p (e .before)) (split (e .before)) (a .list .now) (at-start .pre .1) accepted v h)
 
   -- past the test, the room decides
-  next : {t : Answer × List ℕ} → WritesListOf (b .args .depth) (FromBlack (b .args .depth) R (b .args .list .now)) (b .args .out .now) t
-      → ShiftOf (b .args .depth) (b .args .list .now) (d (e .before)) (b .args .out .now) t
-  next told = inr (accepted-passes (b .args .depth) R (b .args .list .now) accepted, told)
+  next : {t : Answer × List ℕ} → WritesListOf (at-start .args .depth) (FromBlack (at-start .args .depth) R (at-start .args .list .now)) (at-start .args .out .now) t
+      → ShiftOf (at-start .args .depth) (at-start .args .list .now) (d (e .before)) (at-start .args .out .now) t
+  next told = inr (accepted-passes (at-start .args .depth) R (at-start .args .list .now) accepted, told)
 
 -- ---- the needs
 
 returns : tie.Need-returns
 returns c =
-    let t = c .before in
-    let f = t .before in
-    let a = s f .args in
-    let F = first-strays (a .depth) (d f) (p f) (split f) (a .list .now) (s f .pre .1) (stops-first (f .first-stray .ensures) (t .if1 .taken)) in
-    inl (_, (f .first-stray .result, F, refl), ap (keeping (a .out .now)) (c .refusal .ensures))
+    let at-if1 = c .before in
+    let at-first-stray = at-if1 .before in
+    let a = start at-first-stray .args in
+    let F = first-strays (a .depth) (d at-first-stray) (p at-first-stray) (split at-first-stray) (a .list .now) (start at-first-stray .pre .1) (stops-first (at-first-stray .first-stray .ensures) (at-if1 .if1 .taken)) in
+    inl (_, (at-first-stray .first-stray .result, F, refl), ap (keeping (a .out .now)) (c .refusal .ensures))
 
 returns-3 : tie.Need-returns-3
 returns-3 c =
     let room = c .before .before .before .before .before in
     let counted = room .before .before .before in
     let shift = counted .before .before in
-    let e = shift .before in
-    next e (written _ _ _ (voxels e (shift .backwards .result) (shift .backwards .ensures)) (counted .shift-list .ensures) (c .success .ensures) (room .if2 .left) (c .before .before .before .shift-list2 .ensures))
+    let else1 = shift .before in
+    next else1 (written _ _ _ (voxels else1 (shift .backwards .result) (shift .backwards .ensures)) (counted .shift-list .ensures) (c .success .ensures) (room .if2 .left) (c .before .before .before .shift-list2 .ensures))
 
 pub move-whole-spec : {M : Type 1} → statement M
 move-whole-spec =
@@ -100,7 +100,7 @@ move-whole-spec =
     (λ c.
     let counted = c .before .before .before .before in
     let shift = counted .before .before in
-    let e = shift .before in
-    next e (crowded _ _ _ (voxels e (shift .backwards .result) (shift .backwards .ensures)) (counted .shift-list .ensures) (c .refusal2 .ensures) (c .before .if2 .taken)))
+    let else1 = shift .before in
+    next else1 (crowded _ _ _ (voxels else1 (shift .backwards .result) (shift .backwards .ensures)) (counted .shift-list .ensures) (c .refusal2 .ensures) (c .before .if2 .taken)))
     (λ c κs. search needs) (λ c κs. search needs) (λ c. search needs)
     returns-3)

@@ -88,11 +88,11 @@ set-of-spec =
     (λ c κs. search needs)
     (λ c. second-refuses (c .before) (c .if3 .taken))
     (λ c κs.
-    let k = c .before .before in
-    let z : k .judged2 .result .number ≡ 0 = search needs in
-    (at-first k .before .if1 .left, first-good (at-first k) (none k) .good .ordered, second-good k z .good .ordered))
+    let at-judged2 = c .before .before in
+    let z : at-judged2 .judged2 .result .number ≡ 0 = search needs in
+    (at-first at-judged2 .before .if1 .left, first-good (at-first at-judged2) (none at-judged2) .good .ordered, second-good at-judged2 z .good .ordered))
     (λ c. search needs)
     (λ c.
-    let k = c .before .before .before .before .before in
-    let z : k .judged2 .result .number ≡ 0 = search needs in
-    second-passes k z (c .before .before .combine .ensures)))
+    let at-judged2 = c .before .before .before .before .before in
+    let z : at-judged2 .judged2 .result .number ≡ 0 = search needs in
+    second-passes at-judged2 z (c .before .before .combine .ensures)))

@@ -18,47 +18,47 @@ use Rattle.text.proofs.list_text.Tie as tie
 -- ---- what `volume` told
 
 module _ (c : tie.After-volume) where
-  abbrev s : tie.Start
-  s = c .before .before .before
+  abbrev start : tie.Start
+  start = c .before .before .before
 
   abbrev l : List ℕ
-  l = s .args .list .now
+  l = start .args .list .now
 
   abbrev o : List ℕ
-  o = s .args .bytes .now
+  o = start .args .bytes .now
 
   -- the text
   abbrev t : List ℕ
-  t = textOf (s .args .depth) l
+  t = textOf (start .args .depth) l
 
 -- ---- a good list
 
 module _ (c : tie.Else1) where
-  abbrev v : tie.After-volume
-  v = c .before
+  abbrev at-volume : tie.After-volume
+  at-volume = c .before
 
-  none : v .volume .result .number ≡ 0
+  none : at-volume .volume .result .number ≡ 0
   none = search needs
 
-  good : GoodVolume (s v .args .depth) (l v) (v .volume .result .place)
-  good = opening-known (measures (s v .args .depth) (l v)) (v .volume .result) (v .volume .ensures) none
+  good : GoodVolume (start at-volume .args .depth) (l at-volume) (at-volume .volume .result .place)
+  good = opening-known (measures (start at-volume .args .depth) (l at-volume)) (at-volume .volume .result) (at-volume .volume .ensures) none
 
   -- the text that is put is the listing
-  listed : {b after : List ℕ} {r : ℕ} → Put b 0 (listing (s v .args .depth) (l v) (v .volume .result .place)) after r → Put b 0 (t v) after r
+  listed : {b after : List ℕ} {r : ℕ} → Put b 0 (listing (start at-volume .args .depth) (l at-volume) (at-volume .volume .result .place)) after r → Put b 0 (t at-volume) after r
   unfolding textOf listing
-  listed p = put-as (ap (listing (s v .args .depth) (l v)) (good .is-volume)) p
+  listed p = put-as (ap (listing (start at-volume .args .depth) (l at-volume)) (good .is-volume)) p
 
-  told : {r : Answer} {after : List ℕ} → WritesOf (t v) (o v) (r, after) → TextOf (s v .args .depth) (l v) (o v) r after
-  told w = list-written (t v) (o v) (s v .args .depth) (l v) _ (v .volume .result) (v .volume .ensures) none _ _ w
+  told : {r : Answer} {after : List ℕ} → WritesOf (t at-volume) (o at-volume) (r, after) → TextOf (start at-volume .args .depth) (l at-volume) (o at-volume) r after
+  told w = list-written (t at-volume) (o at-volume) (start at-volume .args .depth) (l at-volume) _ (at-volume .volume .result) (at-volume .volume .ensures) none _ _ w
 
 returns-3 : tie.Need-returns-3
 returns-3 c =
-    let q = c .before .before .before in
-    let y = q .before .before in
-    let p = y .before .before .before in
-    let e = p .before .before in
-    told e
-    (text-stands (t (v e)) (o (v e)) _ (p .put-listing .result) (listed e (p .put-listing .ensures)) (y .if2 .left) _ (q .put-listing2 .result) (listed e (q .put-listing2 .ensures)) _
+    let at-put-listing2 = c .before .before .before in
+    let at-if2 = at-put-listing2 .before .before in
+    let at-put-listing = at-if2 .before .before .before in
+    let else1 = at-put-listing .before .before in
+    told else1
+    (text-stands (t (at-volume else1)) (o (at-volume else1)) _ (at-put-listing .put-listing .result) (listed else1 (at-put-listing .put-listing .ensures)) (at-if2 .if2 .left) _ (at-put-listing2 .put-listing2 .result) (listed else1 (at-put-listing2 .put-listing2 .ensures)) _
     (c .success .ensures))
 
 pub list-text-spec : {M : Type 1} → statement M
@@ -66,14 +66,14 @@ list-text-spec =
     tie.close
     (tie.spec
     (λ c κs. search needs)
-    (λ c. let v = c .before in list-refused (t v) (o v) (s v .args .depth) (l v) _ (v .volume .result) (v .volume .ensures) (c .if1 .taken))
+    (λ c. let at-volume = c .before in list-refused (t at-volume) (o at-volume) (start at-volume .args .depth) (l at-volume) _ (at-volume .volume .result) (at-volume .volume .ensures) (c .if1 .taken))
     (λ c. search needs) (λ c. search needs)
     (λ c κs. let k = good (c .before) in (k .shallow, k .good .ordered, k .few))
     (λ c κs. search needs) (λ c. search needs)
     (λ c.
-    let p = c .before .before .before .before in
-    let e = p .before .before in
-    told e (text-short (t (v e)) (o (v e)) _ (p .put-listing .result) (listed e (p .put-listing .ensures)) (c .before .if2 .taken) _ (c .refusal .ensures)))
+    let at-put-listing = c .before .before .before .before in
+    let else1 = at-put-listing .before .before in
+    told else1 (text-short (t (at-volume else1)) (o (at-volume else1)) _ (at-put-listing .put-listing .result) (listed else1 (at-put-listing .put-listing .ensures)) (c .before .if2 .taken) _ (c .refusal .ensures)))
     (λ c. search needs)
     (λ c. sym (length-take-le _ _ (c .before .if2 .left)))
     (λ c κs. let k = good (c .before .before .before .before .before .before) in (k .shallow, k .good .ordered, k .few))

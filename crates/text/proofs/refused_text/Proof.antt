@@ -9,11 +9,11 @@ use Rattle.text.proofs.refused_text.Tie as tie
 
 returns-2 : tie.Need-returns-2
 returns-2 c =
-    let q = c .before .before .before in
-    let e = q .before .before in
-    let p = e .before .before .before in
-    let a = p .before .before .before .args in
-    text-stands (refusedText (a .number) (a .place)) (a .bytes .now) _ (p .put-refused .result) (p .put-refused .ensures) (e .if1 .left) _ (q .put-refused2 .result) (q .put-refused2 .ensures) _
+    let at-put-refused2 = c .before .before .before in
+    let at-if1 = at-put-refused2 .before .before in
+    let at-put-refused = at-if1 .before .before .before in
+    let a = at-put-refused .before .before .before .args in
+    text-stands (refusedText (a .number) (a .place)) (a .bytes .now) _ (at-put-refused .put-refused .result) (at-put-refused .put-refused .ensures) (at-if1 .if1 .left) _ (at-put-refused2 .put-refused2 .result) (at-put-refused2 .put-refused2 .ensures) _
     (c .success .ensures)
 
 pub refused-text-spec : {M : Type 1} → statement M
@@ -22,9 +22,9 @@ refused-text-spec =
     (tie.spec
     (λ c. search needs) (λ c. search needs) (λ c κs. search needs) (λ c κs. search needs) (λ c. search needs)
     (λ c.
-    let p = c .before .before .before .before in
-    let a = p .before .before .before .args in
-    text-short (refusedText (a .number) (a .place)) (a .bytes .now) _ (p .put-refused .result) (p .put-refused .ensures) (c .before .if1 .taken) _ (c .refusal .ensures))
+    let at-put-refused = c .before .before .before .before in
+    let a = at-put-refused .before .before .before .args in
+    text-short (refusedText (a .number) (a .place)) (a .bytes .now) _ (at-put-refused .put-refused .result) (at-put-refused .put-refused .ensures) (c .before .if1 .taken) _ (c .refusal .ensures))
     (λ c. search needs)
     (λ c. sym (length-take-le _ _ (c .before .if1 .left)))
     (λ c κs. search needs) (λ c κs. search needs) (λ c. search needs)

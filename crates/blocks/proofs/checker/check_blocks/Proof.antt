@@ -33,9 +33,9 @@ module _ (c : tie.Else2) where
 module _ (c : tie.Else3) where
   is-sound : Sound (b (c .before .before))
   is-sound =
-      let f = c .before in
-      let all : f .first-unsound .result ≡ length (b (f .before)) / blockBytes = search needs in
-      record { is-whole = whole-file (f .before); each = stops-never (f .first-unsound .ensures) (omega arith) }
+      let at-first-unsound = c .before in
+      let all : at-first-unsound .first-unsound .result ≡ length (b (at-first-unsound .before)) / blockBytes = search needs in
+      record { is-whole = whole-file (at-first-unsound .before); each = stops-never (at-first-unsound .first-unsound .ensures) (omega arith) }
 
 pub check-blocks-spec : {M : Type 1} → statement M
 check-blocks-spec =
@@ -53,10 +53,10 @@ check-blocks-spec =
     (λ c κs. (whole-file c, refl))
     (λ c κs. search needs)
     (λ c.
-    let f = c .before .before in
-    let stops = f .first-unsound .ensures in
-    let below : f .first-unsound .result < length (b (f .before)) / blockBytes = omega (arith, stops .within, c .before .if3 .taken) in
-    inl (_, inr (whole-file (f .before), (_, stops-first stops below, refl)), c .refusal3 .ensures))
+    let at-first-unsound = c .before .before in
+    let stops = at-first-unsound .first-unsound .ensures in
+    let below : at-first-unsound .first-unsound .result < length (b (at-first-unsound .before)) / blockBytes = omega (arith, stops .within, c .before .if3 .taken) in
+    inl (_, inr (whole-file (at-first-unsound .before), (_, stops-first stops below, refl)), c .refusal3 .ensures))
     (λ c κs. (is-sound c, refl))
     (λ c κs. search needs)
     (λ c. inr (sound-passes _ (is-sound (c .before .before)), c .success .ensures ∙ ap given (c .before .leaves-of .ensures))))

@@ -21,18 +21,18 @@ module _ (c : tie.After-answer) where
 
 returns : tie.Need-returns
 returns c =
-    let t = c .before in
-    let r = t .before .holding-of in
-    opening-refuses (judges-file (b t)) (r .result .answer) (r .ensures .tells) alone [] (Done t) (c .if1 .taken)
+    let at-answer = c .before in
+    let r = at-answer .before .holding-of in
+    opening-refuses (judges-file (b at-answer)) (r .result .answer) (r .ensures .tells) alone [] (Done at-answer) (c .if1 .taken)
 
 returns-2 : tie.Need-returns-2
 returns-2 c =
-    let t = c .before .before in
-    let r = t .before .holding-of in
+    let at-answer = c .before .before in
+    let r = at-answer .before .holding-of in
     let z : r .result .answer .number ≡ 0 = search needs in
-    let (k, _) = opening-known (judges-file (b t)) (r .result .answer) (r .ensures .tells) z in
-    opening-passes (judges-file (b t)) (r .result .answer) (r .ensures .tells) alone [] (Done t) _ z
-    (c .success .ensures ∙ ap given (r .ensures .is-voxels z ∙ sym (list-volume (depthOf (b t)) 0 (codes (b t)) (k .good .ordered))))
+    let (k, _) = opening-known (judges-file (b at-answer)) (r .result .answer) (r .ensures .tells) z in
+    opening-passes (judges-file (b at-answer)) (r .result .answer) (r .ensures .tells) alone [] (Done at-answer) _ z
+    (c .success .ensures ∙ ap given (r .ensures .is-voxels z ∙ sym (list-volume (depthOf (b at-answer)) 0 (codes (b at-answer)) (k .good .ordered))))
 
 pub stored-volume-spec : {M : Type 1} → statement M
 stored-volume-spec =

@@ -26,11 +26,11 @@ abbrev μ-loop : tie.MeasureT-loop
 -- ---- the loop's head
 
 module _ (c : tie.At-loop Inv-loop μ-loop) where
-  abbrev s : tie.Start Inv-loop μ-loop
-  s = c .before .before .before
+  abbrev start : tie.Start Inv-loop μ-loop
+  start = c .before .before .before
 
-  same : length (c .loop .out) ≡ length (s .args .out .now)
-  same = ap length (c .loop .inv .1) ∙ length-sets (s .args .out .now) 0 (tabulated (code (s .args .bytes .now)) (c .loop .i))
+  same : length (c .loop .out) ≡ length (start .args .out .now)
+  same = ap length (c .loop .inv .1) ∙ length-sets (start .args .out .now) 0 (tabulated (code (start .args .bytes .now)) (c .loop .i))
 
 loop-holds : tie.Need-loop-holds Inv-loop μ-loop
 unfolding tabulated
@@ -39,11 +39,11 @@ loop-holds c = (search needs, refl)
 returns : tie.Need-returns Inv-loop μ-loop
 unfolding codes
 returns c =
-    let h = c .before in
-    let b = s h .args .bytes .now in
-    let o = s h .args .out .now in
-    let e : h .loop .i ≡ blockCodes * (blocks b - 1) + word b (blocks b - 1) 3 = omega (arith, c .loop-test .left, h .loop .inv .0, s h .pre .1, codes-length b) in
-    h .loop .inv .1 ∙ ap (λ (n : ℕ). sets o 0 (tabulated (code b) n)) e ∙ sets-front o (codes b) (omega (arith, s h .pre .1, s h .pre .2))
+    let at-loop = c .before in
+    let b = start at-loop .args .bytes .now in
+    let o = start at-loop .args .out .now in
+    let e : at-loop .loop .i ≡ blockCodes * (blocks b - 1) + word b (blocks b - 1) 3 = omega (arith, c .loop-test .left, at-loop .loop .inv .0, start at-loop .pre .1, codes-length b) in
+    at-loop .loop .inv .1 ∙ ap (λ (n : ℕ). sets o 0 (tabulated (code b) n)) e ∙ sets-front o (codes b) (omega (arith, start at-loop .pre .1, start at-loop .pre .2))
 
 pub copy-spec : {M : Type 1} → statement M
 copy-spec =
@@ -51,13 +51,13 @@ copy-spec =
     (tie.spec
     Inv-loop μ-loop
     loop-holds
-    (λ c κs. let h = c .before in code-within (s h .args .bytes .now) (s h .pre .0) (h .loop .i) (omega (arith, s h .pre .1, c .loop-test .taken)))
+    (λ c κs. let at-loop = c .before in code-within (start at-loop .args .bytes .now) (start at-loop .pre .0) (at-loop .loop .i) (omega (arith, start at-loop .pre .1, c .loop-test .taken)))
     (λ c. search needs)
-    (λ c. let h = c .before .before in omega (arith, same h, s h .pre .2, c .before .loop-test .taken))
+    (λ c. let at-loop = c .before .before in omega (arith, same at-loop, start at-loop .pre .2, c .before .loop-test .taken))
     (λ c. search needs) (λ c. search needs)
     (λ c.
-    let h = c .before .before in
-    let i = h .loop .i in
-    (search needs, ap (λ (l : List ℕ). set l i (c .code-at .result)) (h .loop .inv .1) ∙ sets-more (code (s h .args .bytes .now)) (s h .args .out .now) i (i + 1) (c .code-at .result) refl (c .code-at .ensures)))
+    let at-loop = c .before .before in
+    let i = at-loop .loop .i in
+    (search needs, ap (λ (l : List ℕ). set l i (c .code-at .result)) (at-loop .loop .inv .1) ∙ sets-more (code (start at-loop .args .bytes .now)) (start at-loop .args .out .now) i (i + 1) (c .code-at .result) refl (c .code-at .ensures)))
     (λ c. same (c .before))
     returns)

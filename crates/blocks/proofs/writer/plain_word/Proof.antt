@@ -12,11 +12,11 @@ use Rattle.blocks.proofs.writer.plain_word.Tie as tie
 
 -- a code's word
 module _ (c : tie.Else4) where
-  abbrev s : tie.Start
-  s = c .before .before .before .before
+  abbrev start : tie.Start
+  start = c .before .before .before .before
 
-  is-code : plain (s .args .depth) (s .args .list .now) (s .args .i) (s .args .w) ≡ getD (s .args .list .now) (blockCodes * s .args .i + (s .args .w - 4)) 0
-  is-code = plain-code (s .args .depth) (s .args .list .now) (s .args .i) (s .args .w) (omega arith) (s .pre .1)
+  is-code : plain (start .args .depth) (start .args .list .now) (start .args .i) (start .args .w) ≡ getD (start .args .list .now) (blockCodes * start .args .i + (start .args .w - 4)) 0
+  is-code = plain-code (start .args .depth) (start .args .list .now) (start .args .i) (start .args .w) (omega arith) (start .pre .1)
 
 pub plain-word-spec : {M : Type 1} → statement M
 unfolding plain
@@ -27,4 +27,4 @@ plain-word-spec =
     (λ c. rw (c .if2 .taken) (c .before .before .pre .0 .number))
     (λ c. rw (c .if3 .taken)) (λ c. search needs) (λ c. search needs) (λ c. search needs) (λ c. rw (c .before .if4 .taken) (omega arith)) (λ c. search needs) (λ c. rw (c .before .if4 .taken) (omega arith)) (λ c. search needs)
     (λ c. search needs) (λ c. search needs) (λ c. search needs) (λ c. sym (is-code (c .before .before)))
-    (λ c. let e = c .before in sym (is-code e ∙ List·getD-eq-default (s e .args .list .now) 0 (c .if6 .left))))
+    (λ c. let else4 = c .before in sym (is-code else4 ∙ List·getD-eq-default (start else4 .args .list .now) 0 (c .if6 .left))))

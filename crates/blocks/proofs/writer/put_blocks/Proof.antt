@@ -22,11 +22,11 @@ abbrev μ-loop : tie.MeasureT-loop
 -- ---- the loop's head
 
 module _ (c : tie.At-loop Inv-loop μ-loop) where
-  abbrev s : tie.Start Inv-loop μ-loop
-  s = c .before .before .before
+  abbrev start : tie.Start Inv-loop μ-loop
+  start = c .before .before .before
 
-  same : length (c .loop .bytes) ≡ length (s .args .bytes .now)
-  same = ap length (c .loop .inv .1) ∙ length-sets (s .args .bytes .now) 0 (tabulated (fileByte (s .args .depth) (s .args .list .now)) (blockBytes * c .loop .i))
+  same : length (c .loop .bytes) ≡ length (start .args .bytes .now)
+  same = ap length (c .loop .inv .1) ∙ length-sets (start .args .bytes .now) 0 (tabulated (fileByte (start .args .depth) (start .args .list .now)) (blockBytes * c .loop .i))
 
 loop-holds : tie.Need-loop-holds Inv-loop μ-loop
 unfolding tabulated
@@ -35,11 +35,11 @@ loop-holds c = (search needs, refl)
 returns : tie.Need-returns Inv-loop μ-loop
 unfolding fileOf
 returns c =
-    let h = c .before in
-    let a = s h .args in
-    let (number, few, room) = s h .pre in
-    let e : blockBytes * h .loop .i ≡ blockBytes * blocksOf (length (a .list .now)) = omega (arith, c .loop-test .left, h .loop .inv .0) in
-    h .loop .inv .1 ∙ ap (begun (a .depth) (a .list .now) (a .bytes .now)) e ∙ sets-front (a .bytes .now) (fileOf (a .depth) (a .list .now)) (omega (arith, file-length (a .depth) (a .list .now)))
+    let at-loop = c .before in
+    let a = start at-loop .args in
+    let (number, few, room) = start at-loop .pre in
+    let e : blockBytes * at-loop .loop .i ≡ blockBytes * blocksOf (length (a .list .now)) = omega (arith, c .loop-test .left, at-loop .loop .inv .0) in
+    at-loop .loop .inv .1 ∙ ap (begun (a .depth) (a .list .now) (a .bytes .now)) e ∙ sets-front (a .bytes .now) (fileOf (a .depth) (a .list .now)) (omega (arith, file-length (a .depth) (a .list .now)))
 
 pub put-blocks-spec : {M : Type 1} → statement M
 put-blocks-spec =
@@ -48,10 +48,10 @@ put-blocks-spec =
     Inv-loop μ-loop
     loop-holds
     (λ c κs.
-    let h = c .before .before in
-    let (number, few, room) = s h .pre in
-    (record { number = number; few = few; inside = c .before .loop-test .taken }, omega (arith, same h)))
+    let at-loop = c .before .before in
+    let (number, few, room) = start at-loop .pre in
+    (record { number = number; few = few; inside = c .before .loop-test .taken }, omega (arith, same at-loop)))
     (λ c. search needs) (λ c. search needs)
-    (λ c. let h = c .before .before .before .before .before in (search needs, c .before .before .put-block .ensures (s h .args .bytes .now) (h .loop .inv .1)))
+    (λ c. let at-loop = c .before .before .before .before .before in (search needs, c .before .before .put-block .ensures (start at-loop .args .bytes .now) (at-loop .loop .inv .1)))
     (λ c. same (c .before))
     returns)

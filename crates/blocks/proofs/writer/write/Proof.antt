@@ -21,56 +21,56 @@ use Rattle.blocks.proofs.writer.write.Tie as tie
 -- ---- what `check` told
 
 module _ (c : tie.After-check) where
-  abbrev s : tie.Start
-  s = c .before .before .before
+  abbrev start : tie.Start
+  start = c .before .before .before
 
   abbrev l : List ℕ
-  l = s .args .list .now
+  l = start .args .list .now
 
   abbrev o : List ℕ
-  o = s .args .bytes .now
+  o = start .args .bytes .now
 
   -- the file
   abbrev f : List ℕ
-  f = fileOf (s .args .depth) l
+  f = fileOf (start .args .depth) l
 
 -- ---- how many blocks a good list takes
 
 module _ (c : tie.After-blocks-of) where
-  abbrev t : tie.After-check
-  t = c .before .before
+  abbrev at-check : tie.After-check
+  at-check = c .before .before
 
-  none : t .check .result .number ≡ 0
+  none : at-check .check .result .number ≡ 0
   none = search needs
 
-  good : Checked (s t .args .depth) (l t) (t .check .result .place)
-  good = opening-known (checks (s t .args .depth) (l t)) (t .check .result) (t .check .ensures) none
+  good : Checked (start at-check .args .depth) (l at-check) (at-check .check .result .place)
+  good = opening-known (checks (start at-check .args .depth) (l at-check)) (at-check .check .result) (at-check .check .ensures) none
 
-  is-blocks : c .blocks-of .result ≡ blocksOf (length (l t))
+  is-blocks : c .blocks-of .result ≡ blocksOf (length (l at-check))
   is-blocks = c .blocks-of .ensures ∙ ap blocksOf (good .is-length)
 
   few : c .blocks-of .result < 2 ^ 32
-  few = omega (arith, is-blocks, good .few, pow8-small (s t .args .depth) (good .shallow))
+  few = omega (arith, is-blocks, good .few, pow8-small (start at-check .args .depth) (good .shallow))
 
-  need : blockBytes * c .blocks-of .result ≡ length (f t)
-  need = ap (λ (n : ℕ). blockBytes * n) is-blocks ∙ sym (file-length (s t .args .depth) (l t))
+  need : blockBytes * c .blocks-of .result ≡ length (f at-check)
+  need = ap (λ (n : ℕ). blockBytes * n) is-blocks ∙ sym (file-length (start at-check .args .depth) (l at-check))
 
-  told : {r : Answer} {after : List ℕ} → WritesOf (f t) (o t) (r, after) → WriteOf (s t .args .depth) (l t) (o t) r after
-  told w = list-written (f t) (o t) (s t .args .depth) (l t) _ (t .check .result) (t .check .ensures) none _ _ w
+  told : {r : Answer} {after : List ℕ} → WritesOf (f at-check) (o at-check) (r, after) → WriteOf (start at-check .args .depth) (l at-check) (o at-check) r after
+  told w = list-written (f at-check) (o at-check) (start at-check .args .depth) (l at-check) _ (at-check .check .result) (at-check .check .ensures) none _ _ w
 
 pub write-spec : {M : Type 1} → statement M
 write-spec =
     tie.close
     (tie.spec
     (λ c κs. search needs)
-    (λ c. let q = c .before in list-refused (f q) (o q) (s q .args .depth) (l q) _ (q .check .result) (q .check .ensures) (c .if1 .taken))
+    (λ c. let at-check = c .before in list-refused (f at-check) (o at-check) (start at-check .args .depth) (l at-check) _ (at-check .check .result) (at-check .check .ensures) (c .if1 .taken))
     (λ c κs. search needs)
     (λ c. omega (arith, few c))
     (λ c κs. search needs)
-    (λ c. let q = c .before .before in told q (too-short (f (t q)) (o (t q)) _ (need q) _ _ (c .before .if2 .taken) (c .refusal .ensures) refl))
-    (λ c κs. let q = c .before .before in (is-blocks q, few q, c .before .if2 .left))
+    (λ c. let at-blocks-of = c .before .before in told at-blocks-of (too-short (f (at-check at-blocks-of)) (o (at-check at-blocks-of)) _ (need at-blocks-of) _ _ (c .before .if2 .taken) (c .refusal .ensures) refl))
+    (λ c κs. let at-blocks-of = c .before .before in (is-blocks at-blocks-of, few at-blocks-of, c .before .if2 .left))
     (λ c κs. search needs) (λ c. search needs)
     (λ c.
-    let w = c .before .before .before in
-    let q = w .before .before .before in
-    told q (standing (f (t q)) (o (t q)) _ (need q) _ _ (w .before .before .if2 .left) (c .success .ensures) (w .put-blocks .ensures))))
+    let at-put-blocks = c .before .before .before in
+    let at-blocks-of = at-put-blocks .before .before .before in
+    told at-blocks-of (standing (f (at-check at-blocks-of)) (o (at-check at-blocks-of)) _ (need at-blocks-of) _ _ (at-put-blocks .before .before .if2 .left) (c .success .ensures) (at-put-blocks .put-blocks .ensures))))

@@ -38,14 +38,14 @@ module _ (c : tie.Else2) where
 
 returns-3 : tie.Need-returns-3
 returns-3 c =
-    let e = c .before .before .before .before in
-    let a = e .before .before .before .args in
-    let n = c .before in
+    let else2 = c .before .before .before .before in
+    let a = else2 .before .before .before .args in
+    let at-number-of = c .before in
     inr (
-      passes (deep-enough (deep e)),
+      passes (deep-enough (deep else2)),
       inr (
-        passes (clash (corner e)),
-        (_, cell-of-corner (a .depth) (axes (a .x) (a .y) (a .z)) (a .level) (corner e), c .success .ensures ∙ ap given (rw (n .number-of .ensures, n .before .pow8 .ensures, n .before .before .pow2 .ensures))),
+        passes (clash (corner else2)),
+        (_, cell-of-corner (a .depth) (axes (a .x) (a .y) (a .z)) (a .level) (corner else2), c .success .ensures ∙ ap given (rw (at-number-of .number-of .ensures, at-number-of .before .pow8 .ensures, at-number-of .before .before .pow2 .ensures))),
       ),
     )
 
@@ -57,8 +57,8 @@ code-spec =
     (λ c. inl (_, (c .before .if1 .taken, refl), c .refusal .ensures))
     (λ c κs. search needs) (λ c κs. search needs)
     (λ c.
-    let p = c .before .before in
-    inr (passes (deep-enough (p .before .if1 .left)), inl (_, (sym (p .is-corner .ensures) ∙ not-true _ (c .before .if2 .taken), refl), c .refusal2 .ensures)))
+    let at-is-corner = c .before .before in
+    inr (passes (deep-enough (at-is-corner .before .if1 .left)), inl (_, (sym (at-is-corner .is-corner .ensures) ∙ not-true _ (c .before .if2 .taken), refl), c .refusal2 .ensures)))
     (λ c. grid c .deep)
     (λ c κs. omega (arith, deep c))
     (λ c κs. omega (arith, grid (c .before) .deep, deep (c .before)))
@@ -67,9 +67,9 @@ code-spec =
     (λ c. some-side (c .before .before) _ (c .before .pow2 .ensures))
     (λ c κs. omega (arith, grid (c .before .before) .deep, deep (c .before .before)))
     (λ c.
-    let e = c .before .before .before in
-    let a = e .before .before .before .args in
+    let else2 = c .before .before .before in
+    let a = else2 .before .before .before .args in
     let s : ℕ = c .before .before .pow2 .result in
-    omega (arith, c .number-of .ensures, c .before .pow8 .ensures, number-lt (a .level) (a .x / s) (a .y / s) (a .z / s), codes-fit (a .level) (omega (arith, grid e .deep, deep e))))
+    omega (arith, c .number-of .ensures, c .before .pow8 .ensures, number-lt (a .level) (a .x / s) (a .y / s) (a .z / s), codes-fit (a .level) (omega (arith, grid else2 .deep, deep else2))))
     (λ c. search needs) (λ c κs. search needs)
     returns-3)

@@ -19,30 +19,30 @@ returns c = let a = c .before .args in rw (lt-leb (a .level) (a .depth) (c .if1 
 -- ---- past the test of the level
 
 module _ (c : tie.After-pow22) where
-  abbrev s : tie.Start
-  s = c .before .before .before
+  abbrev start : tie.Start
+  start = c .before .before .before
 
   abbrev grid : ℕ → Bool
-  grid x = onGrid (2 ^ s .args .depth) (2 ^ (s .args .depth - s .args .level)) x
+  grid x = onGrid (2 ^ start .args .depth) (2 ^ (start .args .depth - start .args .level)) x
 
   some-side : 0 < c .pow22 .result
-  some-side = omega (arith, c .pow22 .ensures, pow2-pos (s .args .depth - s .args .level))
+  some-side = omega (arith, c .pow22 .ensures, pow2-pos (start .args .depth - start .args .level))
 
   -- a coordinate's test
   tested : (x : ℕ) {r : Bool} → r ≡ onGrid (c .before .pow2 .result) (c .pow22 .result) x → grid x ≡ r
   tested x e = sym (e ∙ ap₂ (λ (w s : ℕ). onGrid w s x) (c .before .pow2 .ensures) (c .pow22 .ensures))
 
   -- all three
-  corner : (r : Bool) → r ≡ (grid (s .args .x) && (grid (s .args .y) && grid (s .args .z))) → r ≡ isCorner (s .args .depth) (axes (s .args .x) (s .args .y) (s .args .z)) (s .args .level)
+  corner : (r : Bool) → r ≡ (grid (start .args .x) && (grid (start .args .y) && grid (start .args .z))) → r ≡ isCorner (start .args .depth) (axes (start .args .x) (start .args .y) (start .args .z)) (start .args .level)
   unfolding isCorner
-  corner r e = e ∙ sym (rw (le-leb (s .args .level) (s .args .depth) (c .before .before .if1 .left)))
+  corner r e = e ∙ sym (rw (le-leb (start .args .level) (start .args .depth) (c .before .before .if1 .left)))
 
 module _ (c : tie.Else2) where
-  abbrev p : tie.After-pow22
-  p = c .before .before
+  abbrev at-pow22 : tie.After-pow22
+  at-pow22 = c .before .before
 
-  on-x : grid p (s p .args .x) ≡ true
-  on-x = tested p _ (c .before .on-grid .ensures) ∙ not-false _ (c .if2 .left)
+  on-x : grid at-pow22 (start at-pow22 .args .x) ≡ true
+  on-x = tested at-pow22 _ (c .before .on-grid .ensures) ∙ not-false _ (c .if2 .left)
 
 pub is-corner-spec : {M : Type 1} → statement M
 is-corner-spec =
@@ -51,11 +51,11 @@ is-corner-spec =
     returns
     (λ c κs. search needs) (λ c κs. search needs)
     (λ c κs. some-side c)
-    (λ c. let g = c .before in corner (g .before) _ (rw (tested (g .before) _ (g .on-grid .ensures) ∙ not-true _ (c .if2 .taken))))
-    (λ c κs. some-side (p c))
-    (λ c. let g = c .before in let e = g .before in corner (p e) _ (rw (on-x e, tested (p e) _ (g .on-grid2 .ensures) ∙ not-true _ (c .if3 .taken))))
-    (λ c κs. some-side (p (c .before .before)))
+    (λ c. let at-on-grid = c .before in corner (at-on-grid .before) _ (rw (tested (at-on-grid .before) _ (at-on-grid .on-grid .ensures) ∙ not-true _ (c .if2 .taken))))
+    (λ c κs. some-side (at-pow22 c))
+    (λ c. let at-on-grid2 = c .before in let else2 = at-on-grid2 .before in corner (at-pow22 else2) _ (rw (on-x else2, tested (at-pow22 else2) _ (at-on-grid2 .on-grid2 .ensures) ∙ not-true _ (c .if3 .taken))))
+    (λ c κs. some-side (at-pow22 (c .before .before)))
     (λ c.
-    let g = c .before .before in
-    let e = g .before in
-    corner (p e) _ (rw (on-x e, tested (p e) _ (g .on-grid2 .ensures) ∙ not-false _ (c .before .if3 .left)) (sym (tested (p e) _ (c .on-grid3 .ensures))))))
+    let at-on-grid2 = c .before .before in
+    let else2 = at-on-grid2 .before in
+    corner (at-pow22 else2) _ (rw (on-x else2, tested (at-pow22 else2) _ (at-on-grid2 .on-grid2 .ensures) ∙ not-false _ (c .before .if3 .left)) (sym (tested (at-pow22 else2) _ (c .on-grid3 .ensures))))))

@@ -24,11 +24,11 @@ module _ (c : tie.Else2) where
 
 returns-3 : tie.Need-returns-3
 returns-3 c =
-    let e = c .before .before .before .before .before in
+    let else2 = c .before .before .before .before .before in
     inr (
-      passes (deep-enough (deep e)),
+      passes (deep-enough (deep else2)),
       inr (
-        passes (clash (is-proper e)),
+        passes (clash (is-proper else2)),
         rw (c .success .ensures, c .before .level-of .ensures, c .before .before .coordinate3 .ensures, c .before .before .before .coordinate2 .ensures, c .before .before .before .before .coordinate .ensures),
       ),
     )
@@ -41,8 +41,8 @@ place-spec =
     (λ c. inl (_, (c .before .if1 .taken, refl), c .no-corner .ensures))
     (λ c κs. search needs) (λ c κs. search needs)
     (λ c.
-    let p = c .before .before in
-    inr (passes (deep-enough (p .before .if1 .left)), inl (_, (sym (p .is-proper .ensures) ∙ not-true _ (c .before .if2 .taken), refl), c .no-corner2 .ensures)))
+    let at-is-proper = c .before .before in
+    inr (passes (deep-enough (at-is-proper .before .if1 .left)), inl (_, (sym (at-is-proper .is-proper .ensures) ∙ not-true _ (c .before .if2 .taken), refl), c .no-corner2 .ensures)))
     (λ c κs. let q = is-proper c in (omega arith, deep c, q))
     (λ c κs. (omega arith, deep (c .before), is-proper (c .before)))
     (λ c κs. (omega arith, deep (c .before .before), is-proper (c .before .before)))

@@ -14,15 +14,15 @@ use Rattle.cells.proofs.inner.coordinate.Tie as tie
 -- past the level
 
 module _ (c : tie.After-level-of) where
-  abbrev s : tie.Start
-  s = c .before
+  abbrev start : tie.Start
+  start = c .before
 
   abbrev D : ℕ
-  D = s .args .depth
+  D = start .args .depth
 
   -- it is at most the depth, which is at most the greatest
   low : (c .level-of .result ≤ D) × (D ≤ deepest)
-  low = omega (arith, c .level-of .ensures, level-le D (s .args .code), s .pre .1)
+  low = omega (arith, c .level-of .ensures, level-le D (start .args .code), start .pre .1)
 
 -- the product is the corner
 returns : tie.Need-returns
@@ -35,9 +35,9 @@ coordinate-spec =
     (tie.spec
     (λ c κs. (c .pre .1, c .pre .2))
     (λ c κs. omega (arith, low c))
-    (λ c. let l = c .before in rw (c .pow8 .ensures, l .level-of .ensures) (proper-bounds (D l) (s l .args .code) (s l .pre .2) .0))
-    (λ c κs. let l = c .before in (omega (arith, low l), s l .pre .0))
+    (λ c. let at-level-of = c .before in rw (c .pow8 .ensures, at-level-of .level-of .ensures) (proper-bounds (D at-level-of) (start at-level-of .args .code) (start at-level-of .pre .2) .0))
+    (λ c κs. let at-level-of = c .before in (omega (arith, low at-level-of), start at-level-of .pre .0))
     (λ c. low (c .before .before) .0)
     (λ c κs. omega (arith, low (c .before .before)))
-    (λ c. let l = c .before .before .before in omega (arith, returns c, corner-lt (s l .args .b) (D l) (s l .args .code), pow2-small (D l) (low l .1)))
+    (λ c. let at-level-of = c .before .before .before in omega (arith, returns c, corner-lt (start at-level-of .args .b) (D at-level-of) (start at-level-of .args .code), pow2-small (D at-level-of) (low at-level-of .1)))
     returns)

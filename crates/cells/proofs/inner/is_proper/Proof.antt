@@ -11,18 +11,18 @@ use Rattle.cells.proofs.inner.is_proper.Tie as tie
 
 returns : tie.Need-returns
 returns c =
-    let s = c .before in
-    sym (refuted (proper (s .args .depth) (s .args .code)) (λ p. omega (arith, leading-proper wordBits (s .args .depth) (s .args .code) (omega (arith, s .pre)) p)))
+    let start = c .before in
+    sym (refuted (proper (start .args .depth) (start .args .code)) (λ p. omega (arith, leading-proper wordBits (start .args .depth) (start .args .code) (omega (arith, start .pre)) p)))
 
 returns-2 : tie.Need-returns-2
 returns-2 c =
-    let s = c .before .before in
-    sym (refuted (proper (s .args .depth) (s .args .code)) (λ p. c .if2 .taken (omega (arith, leading-proper wordBits (s .args .depth) (s .args .code) (omega (arith, s .pre)) p))))
+    let start = c .before .before in
+    sym (refuted (proper (start .args .depth) (start .args .code)) (λ p. c .if2 .taken (omega (arith, leading-proper wordBits (start .args .depth) (start .args .code) (omega (arith, start .pre)) p))))
 
 returns-3 : tie.Need-returns-3
 returns-3 c =
-    let s = c .before .before in
-    leading-test wordBits (s .args .depth) (s .args .code) (omega (arith, s .pre)) (s .fits .code .fits) (omega arith) (c .if2 .left)
+    let start = c .before .before in
+    leading-test wordBits (start .args .depth) (start .args .code) (omega (arith, start .pre)) (start .fits .code .fits) (omega arith) (c .if2 .left)
 
 pub is-proper-spec : {M : Type 1} → statement M
 is-proper-spec = tie.close (tie.spec returns returns-2 returns-3)

@@ -36,15 +36,15 @@ fits-back = record { sfits = omega arith }
 
 returns : tie.Need-returns
 unfolding digitOf
-returns c = let s = c .before in ap digitOf (sym (of-bits (s .args .d) (pos 0) (s .fits .d) fits-none (c .if1 .taken)))
+returns c = let start = c .before in ap digitOf (sym (of-bits (start .args .d) (pos 0) (start .fits .d) fits-none (c .if1 .taken)))
 
 returns-2 : tie.Need-returns-2
 unfolding digitOf
-returns-2 c = let s = c .before .before in ap digitOf (sym (of-bits (s .args .d) (pos 1) (s .fits .d) fits-forth (c .if2 .taken)))
+returns-2 c = let start = c .before .before in ap digitOf (sym (of-bits (start .args .d) (pos 1) (start .fits .d) fits-forth (c .if2 .taken)))
 
 returns-3 : tie.Need-returns-3
 unfolding digitOf
-returns-3 c = let s = c .before .before .before in ap digitOf (sym (of-bits (s .args .d) (negsuc 0) (s .fits .d) fits-back (c .if3 .taken)))
+returns-3 c = let start = c .before .before .before in ap digitOf (sym (of-bits (start .args .d) (negsuc 0) (start .fits .d) fits-back (c .if3 .taken)))
 
 returns-4 : tie.Need-returns-4
 returns-4 c =

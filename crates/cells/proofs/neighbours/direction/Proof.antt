@@ -16,30 +16,30 @@ use Rattle.cells.proofs.neighbours.direction.Tie as tie
 
 -- the three digits
 module _ (c : tie.After-digit3) where
-  abbrev s : tie.Start
-  s = c .before .before .before
+  abbrev start : tie.Start
+  start = c .before .before .before
 
-  at-x : c .before .before .digit .result ≡ digitOf (s .args .dx)
-  at-x = c .before .before .digit .ensures ∙ ap digitOf (toZ-ofZ w32 (s .args .dx) (s .fits .dx))
+  at-x : c .before .before .digit .result ≡ digitOf (start .args .dx)
+  at-x = c .before .before .digit .ensures ∙ ap digitOf (toZ-ofZ w32 (start .args .dx) (start .fits .dx))
 
-  at-y : c .before .digit2 .result ≡ digitOf (s .args .dy)
-  at-y = c .before .digit2 .ensures ∙ ap digitOf (toZ-ofZ w32 (s .args .dy) (s .fits .dy))
+  at-y : c .before .digit2 .result ≡ digitOf (start .args .dy)
+  at-y = c .before .digit2 .ensures ∙ ap digitOf (toZ-ofZ w32 (start .args .dy) (start .fits .dy))
 
-  at-z : c .digit3 .result ≡ digitOf (s .args .dz)
-  at-z = c .digit3 .ensures ∙ ap digitOf (toZ-ofZ w32 (s .args .dz) (s .fits .dz))
+  at-z : c .digit3 .result ≡ digitOf (start .args .dz)
+  at-z = c .digit3 .ensures ∙ ap digitOf (toZ-ofZ w32 (start .args .dz) (start .fits .dz))
 
   abbrev steps : ℕ → ℤ
-  steps = axes (s .args .dx) (s .args .dy) (s .args .dz)
+  steps = axes (start .args .dx) (start .args .dy) (start .args .dz)
 
 pub direction-spec : {M : Type 1} → statement M
 direction-spec =
     tie.close
     (tie.spec
     (λ c κs. search needs) (λ c κs. search needs) (λ c κs. search needs)
-    (λ c. let q = c .before in bad-step (steps q) 0 (omega arith) (omega (arith, at-x q)))
-    (λ c. let q = c .before .before in bad-step (steps q) 1 (omega arith) (omega (arith, at-y q)))
-    (λ c. let q = c .before .before .before in bad-step (steps q) 2 (omega arith) (omega (arith, at-z q)))
+    (λ c. let at-digit3 = c .before in bad-step (steps at-digit3) 0 (omega arith) (omega (arith, at-x at-digit3)))
+    (λ c. let at-digit3 = c .before .before in bad-step (steps at-digit3) 1 (omega arith) (omega (arith, at-y at-digit3)))
+    (λ c. let at-digit3 = c .before .before .before in bad-step (steps at-digit3) 2 (omega arith) (omega (arith, at-z at-digit3)))
     (λ c. search needs) (λ c. search needs) (λ c. search needs) (λ c. search needs)
     (λ c.
-    let q = c .before .before .before in
-    subst (Direction (steps q)) (omega (arith, at-x q, at-y q, at-z q)) (numbered (steps q) (each-axis _ (omega (arith, at-x q)) (omega (arith, at-y q)) (omega (arith, at-z q))))))
+    let at-digit3 = c .before .before .before in
+    subst (Direction (steps at-digit3)) (omega (arith, at-x at-digit3, at-y at-digit3, at-z at-digit3)) (numbered (steps at-digit3) (each-axis _ (omega (arith, at-x at-digit3)) (omega (arith, at-y at-digit3)) (omega (arith, at-z at-digit3))))))

@@ -37,14 +37,14 @@ abbrev μ-loop : tie.MeasureT-loop
 -- ---- what is known past the tests
 
 module _ (c : tie.After-direction Inv-loop μ-loop) where
-  abbrev s : tie.Start Inv-loop μ-loop
-  s = c .before .before .before .before
+  abbrev start : tie.Start Inv-loop μ-loop
+  start = c .before .before .before .before
 
   abbrev D : ℕ
-  D = s .args .depth
+  D = start .args .depth
 
   abbrev code : ℕ
-  code = s .args .code
+  code = start .args .code
 
   abbrev k : ℕ
   k = level D code
@@ -62,10 +62,10 @@ module _ (c : tie.After-direction Inv-loop μ-loop) where
   is = sym (c .before .before .is-proper .ensures) ∙ not-false _ (c .before .if2 .left)
 
   abbrev steps : ℕ → ℤ
-  steps = axes (s .args .dx) (s .args .dy) (s .args .dz)
+  steps = axes (start .args .dx) (start .args .dy) (start .args .dz)
 
   directed : Direction steps d
-  directed = signed-axes (λ x. Direction x d) _ _ _ (s .fits .dx) (s .fits .dy) (s .fits .dz) (c .direction .ensures)
+  directed = signed-axes (λ x. Direction x d) _ _ _ (start .fits .dx) (start .fits .dy) (start .fits .dz) (c .direction .ensures)
 
   -- the codes of the level fit
   small : 2 * 8 ^ k < 2 ^ wordBits
@@ -78,49 +78,49 @@ module _ (c : tie.After-direction Inv-loop μ-loop) where
 -- ---- in the loop
 
 module _ (l : tie.At-loop Inv-loop μ-loop) where
-  abbrev q : tie.After-direction Inv-loop μ-loop
-  q = l .before .before
+  abbrev at-direction : tie.After-direction Inv-loop μ-loop
+  at-direction = l .before .before
 
-  some : d q ≡ 0 → ⊥
+  some : d at-direction ≡ 0 → ⊥
   some = l .before .if3 .left
 
-  good : IsDirection (steps q)
-  good = directed q .good some
+  good : IsDirection (steps at-direction)
+  good = directed at-direction .good some
 
   -- no carry is left: the address is known, and fits the word
-  worked : l .loop .carry ≤ 0 → (carried (k q) (i q) (d q) ≡ 0) × (l .loop .rest * l .loop .weight + l .loop .done ≡ 8 ^ k q + stepped (k q) (i q) (d q))
+  worked : l .loop .carry ≤ 0 → (carried (k at-direction) (i at-direction) (d at-direction) ≡ 0) × (l .loop .rest * l .loop .weight + l .loop .done ≡ 8 ^ k at-direction + stepped (k at-direction) (i at-direction) (d at-direction))
   worked h = finished (l .loop .inv) (omega arith)
 
   fits : l .loop .carry ≤ 0 → l .loop .rest * l .loop .weight + l .loop .done < 2 ^ wordBits
-  fits h = omega (arith, worked h, small q, stepped-sum (k q) (i q) (d q) (directed q .small) .0)
+  fits h = omega (arith, worked h, small at-direction, stepped-sum (k at-direction) (i at-direction) (d at-direction) (directed at-direction .small) .0)
 
 returns-4 : tie.Need-returns-4 Inv-loop μ-loop
 returns-4 c =
-    let l = c .before .before .before in
-    let e = ended (l .loop .inv) (c .before .if4 .taken) in
-    let x = q l in
-    past x _
+    let at-loop = c .before .before .before in
+    let e = ended (at-loop .loop .inv) (c .before .if4 .taken) in
+    let walking = at-direction at-loop in
+    past walking _
     (inr (
-      passes (λ none. none (good l)),
-      inl (_, (missing (D x) (code x) (is x) (steps x) (d x) (directed x) (some l) (λ z. omega (arith, e, z, c .before .before .loop-test .taken)), refl), c .refusal4 .ensures),
+      passes (λ none. none (good at-loop)),
+      inl (_, (missing (D walking) (code walking) (is walking) (steps walking) (d walking) (directed walking) (some at-loop) (λ z. omega (arith, e, z, c .before .before .loop-test .taken)), refl), c .refusal4 .ensures),
     ))
 
 -- a label more fits the word
 next-fits : (c : tie.After-rule Inv-loop μ-loop)
     → (c .before .before .before .loop .done + c .rule .result % 8 * c .before .before .before .loop .weight < 2 ^ wordBits) × (c .before .before .before .loop .weight * 8 < 2 ^ wordBits)
 next-fits c =
-    let l = c .before .before .before in
-    let r = room (l .loop .inv) (c .before .if4 .left) in
-    let w : c .rule .result % 8 * l .loop .weight ≤ 7 * l .loop .weight = mul-le-mul-right (l .loop .weight) (omega arith) in
-    omega (arith, small (q l), l .loop .inv .low)
+    let at-loop = c .before .before .before in
+    let r = room (at-loop .loop .inv) (c .before .if4 .left) in
+    let w : c .rule .result % 8 * at-loop .loop .weight ≤ 7 * at-loop .loop .weight = mul-le-mul-right (at-loop .loop .weight) (omega arith) in
+    omega (arith, small (at-direction at-loop), at-loop .loop .inv .low)
 
 returns-5 : tie.Need-returns-5 Inv-loop μ-loop
 returns-5 c =
-    let l = c .before .before in
-    let x = q l in
-    let w = worked l (c .before .loop-test .left) in
-    let n = found (D x) (code x) (is x) (steps x) (d x) (directed x) (some l) (w .0) in
-    past x _ (inr (passes (λ none. none (good l)), inr (passes (λ none. none _ n), (_, n, c .success .ensures ∙ ap given (w .1)))))
+    let at-loop = c .before .before in
+    let walking = at-direction at-loop in
+    let w = worked at-loop (c .before .loop-test .left) in
+    let n = found (D walking) (code walking) (is walking) (steps walking) (d walking) (directed walking) (some at-loop) (w .0) in
+    past walking _ (inr (passes (λ none. none (good at-loop)), inr (passes (λ none. none _ n), (_, n, c .success .ensures ∙ ap given (w .1)))))
 
 pub neighbour-spec : {M : Type 1} → statement M
 neighbour-spec =
@@ -131,13 +131,13 @@ neighbour-spec =
     (λ c. inl (_, (c .before .if1 .taken, refl), c .refusal .ensures))
     (λ c κs. search needs) (λ c κs. search needs)
     (λ c.
-    let p = c .before .before in
-    inr (passes (deep-enough (p .before .if1 .left)), inl (_, (sym (p .is-proper .ensures) ∙ not-true _ (c .before .if2 .taken), refl), c .refusal2 .ensures)))
+    let at-is-proper = c .before .before in
+    inr (passes (deep-enough (at-is-proper .before .if1 .left)), inl (_, (sym (at-is-proper .is-proper .ensures) ∙ not-true _ (c .before .if2 .taken), refl), c .refusal2 .ensures)))
     (λ c κs. search needs) (λ c κs. search needs)
-    (λ c. let x = c .before .before in past x _ (inl (_, (directed x .bad (c .before .if3 .taken), refl), c .refusal3 .ensures)))
+    (λ c. let at-direction = c .before .before in past at-direction _ (inl (_, (directed at-direction .bad (c .before .if3 .taken), refl), c .refusal3 .ensures)))
     (λ c.
-    let q = c .before in
-    progress-begins (k q) (i q) (d q) (code q) (code-is (D q) (code q) (is q)) (index-lt (D q) (code q) (is q)) (directed q .small))
+    let at-direction = c .before in
+    progress-begins (k at-direction) (i at-direction) (d at-direction) (code at-direction) (code-is (D at-direction) (code at-direction) (is at-direction)) (index-lt (D at-direction) (code at-direction) (is at-direction)) (directed at-direction .small))
     (λ c κs. search needs)
     returns-4
     (λ c κs. (omega arith, c .before .before .loop .inv .small))

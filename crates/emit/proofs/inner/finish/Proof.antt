@@ -8,8 +8,8 @@ use Rattle.emit.proofs.inner.finish.Tie as tie
 
 returns : tie.Need-returns
 returns c = λ P o e.
-    let s = c .before .before .before .before .before .before in
-    let a = s .args in
+    let start = c .before .before .before .before .before .before in
+    let a = start .args in
     let f = c .before .before .flush in
     let x : Fed (a .depth) P (8 ^ a .depth) (8 ^ a .depth) (a .out .now) (a .r) (f .last .1 .1 .1 .0) (fresh (8 ^ a .depth) (f .result)) =
     rw (c .before .before .before .before .pow8 .ensures) at (f .ensures P) in

@@ -41,13 +41,13 @@ module _ (c : tie.After-fit Inv-loop μ-loop) where
 
 loop-again : tie.Need-loop-again Inv-loop μ-loop
 loop-again c =
-    let f = c .before .before .before .before in
-    let inv = at-loop f .loop .inv in
+    let at-fit = c .before .before .before .before in
+    let inv = at-loop at-fit .loop .inv in
     let put = c .before .before .put in
-    let code : put .last .0 ≡ set (at-loop f .loop .out) (at-loop f .loop .n) ((8 ^ start f .args .depth + at-loop f .loop .p) / f .fit .result) = rw (← at-loop f .before .pow8 .ensures) (put .ensures) in
+    let code : put .last .0 ≡ set (at-loop at-fit .loop .out) (at-loop at-fit .loop .n) ((8 ^ start at-fit .args .depth + at-loop at-fit .loop .p) / at-fit .fit .result) = rw (← at-loop at-fit .before .pow8 .ensures) (put .ensures) in
     record {
-      fed = λ P. fed-then _ P (inv .fed P) (fed-cell (start f .args .depth) P (start f .pre .2) (f .fit .ensures) code (inv .ready));
-      ready = ready-cell (f .fit .ensures) (inv .ready);
+      fed = λ P. fed-then _ P (inv .fed P) (fed-cell (start at-fit .args .depth) P (start at-fit .pre .2) (at-fit .fit .ensures) code (inv .ready));
+      ready = ready-cell (at-fit .fit .ensures) (inv .ready);
       kept = put .kept .0 ∙ inv .kept;
     }
 

@@ -12,17 +12,17 @@ use Rattle.emit.proofs.inner.push.Tie as tie
 
 returns : tie.Need-returns
 returns c = λ P colour.
-    let s = c .before .before in
-    let a = s .args in
-    fed-white (a .depth) P (a .from) (a .to) (a .out .now) (a .r) (omega (arith, s .pre .some)) (s .pre .root) (λ v x y. colour v x y ∙ not-true (a .black) (c .if1 .taken)) (s .pre .ready)
+    let start = c .before .before in
+    let a = start .args in
+    fed-white (a .depth) P (a .from) (a .to) (a .out .now) (a .r) (omega (arith, start .pre .some)) (start .pre .root) (λ v x y. colour v x y ∙ not-true (a .black) (c .if1 .taken)) (start .pre .ready)
 
 returns-2 : tie.Need-returns-2
 returns-2 c = λ P colour.
-    let s = c .before .before .before .before in
-    let a = s .args in
-    let h = s .pre .ready in
+    let start = c .before .before .before .before in
+    let a = start .args in
+    let h = start .pre .ready in
     record {
-      ready = record { run = omega (arith, h .run, h .past, s .pre .some); past = omega arith; few = h .few; root = s .pre .root };
+      ready = record { run = omega (arith, h .run, h .past, start .pre .some); past = omega arith; few = h .few; root = start .pre .root };
       emits = λ o e.
           emit-black (a .depth) P o (a .out .now) (a .from) (a .to) (a .r .from) (a .r .at)
           (λ v x y. colour v x y ∙ not-false (a .black) (c .before .before .if1 .left))
@@ -36,12 +36,12 @@ flush-requires c κs =
 
 returns-3 : tie.Need-returns-3
 returns-3 c = λ P colour.
-    let s = c .before .before .before .before .before .before .before .before in
-    let a = s .args in
+    let start = c .before .before .before .before .before .before .before .before in
+    let a = start .args in
     let f = c .before .before .flush in
     let x = f .ensures P in
     record {
-      ready = record { run = omega (arith, s .pre .some); past = omega arith; few = omega (arith, x .ready .few); root = s .pre .root };
+      ready = record { run = omega (arith, start .pre .some); past = omega arith; few = omega (arith, x .ready .few); root = start .pre .root };
       emits = λ o e.
           emit-black (a .depth) P o (f .last .1 .1 .1 .0) (a .from) (a .to) (a .from) (f .result)
           (λ v x y. colour v x y ∙ not-false (a .black) (c .before .before .before .before .before .before .if1 .left))

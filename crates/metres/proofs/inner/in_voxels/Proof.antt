@@ -13,8 +13,8 @@ in-voxels-spec =
     (λ c. inl (_, (c .if1 .taken, refl), refl))
     (λ c κs. search needs) (λ c κs. search needs) (λ c κs. search needs) (λ c κs. search needs)
     (λ c.
-    let z = c .before in
-    let y = z .before in
-    let x = y .before in
-    let e = x .before in
-    rw (c .joined .ensures) (together-taken (e .before .args .d) (e .if1 .left) _ _ _ (x .nearest .ensures) (y .nearest2 .ensures) (z .nearest3 .ensures))))
+    let at-nearest3 = c .before in
+    let at-nearest2 = at-nearest3 .before in
+    let at-nearest = at-nearest2 .before in
+    let at-if1 = at-nearest .before in
+    rw (c .joined .ensures) (together-taken (at-if1 .before .args .d) (at-if1 .if1 .left) _ _ _ (at-nearest .nearest .ensures) (at-nearest2 .nearest2 .ensures) (at-nearest3 .nearest3 .ensures))))

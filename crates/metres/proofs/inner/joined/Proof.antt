@@ -13,14 +13,14 @@ joined-spec =
     (λ c. search needs) (λ c. search needs) (λ c. search needs) (λ c. search needs) (λ c. search needs) (λ c. search needs) (λ c. search needs)
     (λ c. search needs) (λ c. search needs)
     (λ c.
-    let gz = c .before in
-    let gy = gz .before .before .before in
-    let gx = gy .before .before .before in
+    let at-z = c .before in
+    let at-y = at-z .before .before .before in
+    let at-x = at-y .before .before .before in
     rw (
-      gx .x .given .1,
-      gy .y .given .1,
-      gz .z .given .1,
-      toZ-ofZ {w = w32} (record { sfits = gy .before .before .known-told .given .0 .1 }),
-      toZ-ofZ {w = w32} (record { sfits = gz .before .before .known-told2 .given .0 .1 }),
+      at-x .x .given .1,
+      at-y .y .given .1,
+      at-z .z .given .1,
+      toZ-ofZ {w = w32} (record { sfits = at-y .before .before .known-told .given .0 .1 }),
+      toZ-ofZ {w = w32} (record { sfits = at-z .before .before .known-told2 .given .0 .1 }),
       toZ-ofZ {w = w32} (record { sfits = c .known-told3 .given .0 .1 }),
     )))

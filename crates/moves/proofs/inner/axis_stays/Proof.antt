@@ -15,4 +15,4 @@ axis-stays-spec =
     (λ c κs. search needs)
     (λ c. let a = c .before .args in omega (arith, c .level-of .ensures, level-le (a .depth) (a .code)))
     (λ c κs. search needs) (λ c κs. search needs) (λ c κs. search needs) (λ c κs. search needs)
-    (λ c. let p = c .before .before in rw (c .stays .ensures, p .pow22 .ensures, c .before .coordinate .ensures, p .before .pow2 .ensures, p .before .before .level-of .ensures)))
+    (λ c. let at-pow22 = c .before .before in rw (c .stays .ensures, at-pow22 .pow22 .ensures, c .before .coordinate .ensures, at-pow22 .before .pow2 .ensures, at-pow22 .before .before .level-of .ensures)))

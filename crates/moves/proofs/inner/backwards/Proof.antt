@@ -10,4 +10,4 @@ backwards-spec =
     tie.close
     (tie.spec
     (λ c κs. search needs) (λ c κs. search needs) (λ c κs. search needs) (λ c κs. search needs)
-    (λ c. let z = c .before in let y = z .before in rw (c .number-of .ensures, y .before .turn .ensures, y .turn2 .ensures, z .turn3 .ensures)))
+    (λ c. let at-turn3 = c .before in let at-turn2 = at-turn3 .before in rw (c .number-of .ensures, at-turn2 .before .turn .ensures, at-turn2 .turn2 .ensures, at-turn3 .turn3 .ensures)))

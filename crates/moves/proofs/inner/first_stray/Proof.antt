@@ -26,8 +26,8 @@ first-stray-spec =
     (λ c. (omega arith, λ j h. absurd (omega arith)))
     (λ c. omega arith) (λ c. omega arith)
     (λ c κs.
-    let s = c .before .before .before .before in
-    (s .pre .0, proper-at (s .args .depth) (s .args .list .now) (s .pre .1) (c .before .before .loop .i) (omega arith)))
+    let start = c .before .before .before .before in
+    (start .pre .0, proper-at (start .args .depth) (start .args .list .now) (start .pre .1) (c .before .before .loop .i) (omega arith)))
     (λ c.
     let u = c .before .before .before .before .loop in
     record { within = u .inv .0; before = u .inv .1; here = λ _. sym (c .before .leaf-stays .ensures) ∙ not-true _ (c .if1 .taken) })

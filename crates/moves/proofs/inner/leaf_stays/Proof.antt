@@ -15,10 +15,10 @@ leaf-stays-spec =
     (λ c. sym (rw (sym (c .before .axis-stays .ensures) ∙ not-true _ (c .if1 .taken))))
     (λ c κs. search needs)
     (λ c.
-    let p = c .before .before in
-    sym (rw (sym (p .before .axis-stays .ensures) ∙ not-false _ (p .if1 .left), sym (c .before .axis-stays2 .ensures) ∙ not-true _ (c .if2 .taken))))
+    let at-if1 = c .before .before in
+    sym (rw (sym (at-if1 .before .axis-stays .ensures) ∙ not-false _ (at-if1 .if1 .left), sym (c .before .axis-stays2 .ensures) ∙ not-true _ (c .if2 .taken))))
     (λ c κs. search needs)
     (λ c.
-    let q = c .before .before in
-    let p = q .before in
-    c .axis-stays3 .ensures ∙ sym (rw (sym (p .before .axis-stays .ensures) ∙ not-false _ (p .if1 .left), sym (q .axis-stays2 .ensures) ∙ not-false _ (c .before .if2 .left)))))
+    let at-axis-stays2 = c .before .before in
+    let at-if1 = at-axis-stays2 .before in
+    c .axis-stays3 .ensures ∙ sym (rw (sym (at-if1 .before .axis-stays .ensures) ∙ not-false _ (at-if1 .if1 .left), sym (at-axis-stays2 .axis-stays2 .ensures) ∙ not-false _ (c .before .if2 .left)))))

@@ -26,12 +26,12 @@ clear-spec =
     (λ c. omega arith)
     (λ c. omega arith)
     (λ c.
-    let l = c .before in
-    let o = l .before .args .answer .now in
-    (omega arith, simp length-set (omega arith), ap (λ (x : List ℕ). set x (l .loop .i) 0) (l .loop .inv .2) ∙ fill-more (l .loop .i) 0 o (omega arith)))
+    let at-loop = c .before in
+    let o = at-loop .before .args .answer .now in
+    (omega arith, simp length-set (omega arith), ap (λ (x : List ℕ). set x (at-loop .loop .i) 0) (at-loop .loop .inv .2) ∙ fill-more (at-loop .loop .i) 0 o (omega arith)))
     (λ c. omega arith)
     (λ c.
-    let l = c .before in
-    let o = l .before .args .answer .now in
-    let e : l .loop .i ≡ length o = omega arith in
-    l .loop .inv .2 ∙ rw e (zeros-all (length o) o (omega arith))))
+    let at-loop = c .before in
+    let o = at-loop .before .args .answer .now in
+    let e : at-loop .loop .i ≡ length o = omega arith in
+    at-loop .loop .inv .2 ∙ rw e (zeros-all (length o) o (omega arith))))

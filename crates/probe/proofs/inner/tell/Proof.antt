@@ -20,7 +20,7 @@ tell-spec =
     (λ c. simp length-set (omega arith))
     (λ c. search needs)
     (λ c.
-    let k = c .before .before .before .before in
-    let s = k .before .before .before in
-    let a = s .args in
-    rw (k .clear .ensures) (told-over _ (a .a .number) (a .a .place) (a .a .list) (a .x) (a .y) (a .z) (a .level) (s .pre))))
+    let at-clear = c .before .before .before .before in
+    let start = at-clear .before .before .before in
+    let a = start .args in
+    rw (at-clear .clear .ensures) (told-over _ (a .a .number) (a .a .place) (a .a .list) (a .x) (a .y) (a .z) (a .level) (start .pre))))

@@ -7,4 +7,4 @@ use Rattle.probe.proofs.on_blocks.probe_block_check.Statement.{statemen
 use Rattle.probe.proofs.on_blocks.probe_block_check.Tie as tie
 
 pub probe-block-check-spec : {M : Type 1} → statement M
-probe-block-check-spec = tie.close (tie.spec (λ c. inl (omega arith, refl)) (λ c κs. search needs) (λ c κs. search needs) (λ c. search needs) (λ c. let t = c .before .before in inr (omega arith, (t .before .check-blocks .result, t .before .check-blocks .ensures, t .tell .ensures))))
+probe-block-check-spec = tie.close (tie.spec (λ c. inl (omega arith, refl)) (λ c κs. search needs) (λ c κs. search needs) (λ c. search needs) (λ c. let at-tell = c .before .before in inr (omega arith, (at-tell .before .check-blocks .result, at-tell .before .check-blocks .ensures, at-tell .tell .ensures))))

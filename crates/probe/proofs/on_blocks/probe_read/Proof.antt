@@ -12,4 +12,4 @@ probe-read-spec =
     (tie.spec
     (λ c. inl (omega arith, (refl, refl)))
     (λ c κs. search needs) (λ c. search needs) (λ c κs. search needs) (λ c. search needs) (λ c. search needs)
-    (λ c. let t = c .before .before in let s = t .before .before .before .before .before .before in inr (omega arith, (s .read .result, s .read .ensures, t .tell .ensures))))
+    (λ c. let at-tell = c .before .before in let at-read = at-tell .before .before .before .before .before .before in inr (omega arith, (at-read .read .result, at-read .read .ensures, at-tell .tell .ensures))))

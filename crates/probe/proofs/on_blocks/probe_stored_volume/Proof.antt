@@ -7,4 +7,4 @@ use Rattle.probe.proofs.on_blocks.probe_stored_volume.Statement.{statem
 use Rattle.probe.proofs.on_blocks.probe_stored_volume.Tie as tie
 
 pub probe-stored-volume-spec : {M : Type 1} → statement M
-probe-stored-volume-spec = tie.close (tie.spec (λ c. inl (omega arith, refl)) (λ c κs. search needs) (λ c κs. search needs) (λ c. search needs) (λ c. let t = c .before .before in inr (omega arith, (t .before .stored-volume .result, t .before .stored-volume .ensures, t .tell .ensures))))
+probe-stored-volume-spec = tie.close (tie.spec (λ c. inl (omega arith, refl)) (λ c κs. search needs) (λ c κs. search needs) (λ c. search needs) (λ c. let at-tell = c .before .before in inr (omega arith, (at-tell .before .stored-volume .result, at-tell .before .stored-volume .ensures, at-tell .tell .ensures))))

@@ -10,11 +10,11 @@ use Rattle.probe.proofs.on_cells.probe_neighbour.Tie as tie
 
 returns-2 : tie.Need-returns-2
 returns-2 c =
-    let t = c .before .before in
-    let n = t .before in
-    let s = n .before .before .before .before in
-    let a = s .args in
-    inr (omega arith, (n .neighbour .result, signed-axes (λ d. NeighbourOf (a .depth) (a .code) d (n .neighbour .result)) _ _ _ (s .fits .dx) (s .fits .dy) (s .fits .dz) (n .neighbour .ensures), t .tell .ensures))
+    let at-tell = c .before .before in
+    let at-neighbour = at-tell .before in
+    let start = at-neighbour .before .before .before .before in
+    let a = start .args in
+    inr (omega arith, (at-neighbour .neighbour .result, signed-axes (λ d. NeighbourOf (a .depth) (a .code) d (at-neighbour .neighbour .result)) _ _ _ (start .fits .dx) (start .fits .dy) (start .fits .dz) (at-neighbour .neighbour .ensures), at-tell .tell .ensures))
 
 pub probe-neighbour-spec : {M : Type 1} → statement M
 probe-neighbour-spec =

@@ -7,4 +7,4 @@ use Rattle.probe.proofs.on_cells.probe_place.Statement.{statement}
 use Rattle.probe.proofs.on_cells.probe_place.Tie as tie
 
 pub probe-place-spec : {M : Type 1} → statement M
-probe-place-spec = tie.close (tie.spec (λ c. inl (omega arith, refl)) (λ c κs. search needs) (λ c. search needs) (λ c. search needs) (λ c. search needs) (λ c. search needs) (λ c κs. search needs) (λ c. search needs) (λ c. let t = c .before .before in let p = t .before .before .before .before .before .before .before in inr (omega arith, (p .place .result, p .place .ensures, t .tell .ensures))))
+probe-place-spec = tie.close (tie.spec (λ c. inl (omega arith, refl)) (λ c κs. search needs) (λ c. search needs) (λ c. search needs) (λ c. search needs) (λ c. search needs) (λ c κs. search needs) (λ c. search needs) (λ c. let at-tell = c .before .before in let at-place = at-tell .before .before .before .before .before .before .before in inr (omega arith, (at-place .place .result, at-place .place .ensures, at-tell .tell .ensures))))

@@ -7,4 +7,4 @@ use Rattle.probe.proofs.on_moves.probe_move_metres.Statement.{statement
 use Rattle.probe.proofs.on_moves.probe_move_metres.Tie as tie
 
 pub probe-move-metres-spec : {M : Type 1} → statement M
-probe-move-metres-spec = tie.close (tie.spec (λ c. inl (omega arith, (refl, refl))) (λ c κs. search needs) (λ c κs. search needs) (λ c. search needs) (λ c. search needs) (λ c. let t = c .before .before in let s = t .before .before .before .before in inr (omega arith, (s .move-list .result, s .move-list .ensures, t .tell .ensures))))
+probe-move-metres-spec = tie.close (tie.spec (λ c. inl (omega arith, (refl, refl))) (λ c κs. search needs) (λ c κs. search needs) (λ c. search needs) (λ c. search needs) (λ c. let at-tell = c .before .before in let at-move-list = at-tell .before .before .before .before in inr (omega arith, (at-move-list .move-list .result, at-move-list .move-list .ensures, at-tell .tell .ensures))))

@@ -22,10 +22,10 @@ copy-spec =
     (λ c. (omega arith, omega arith, omega arith, copied-none (c .args .from .now) (c .args .to .now)))
     (λ c. omega arith)
     (λ c.
-    let l = c .before .before in
-    let a = l .before .args in
-    let e : l .loop .i ≡ min (length (a .from .now)) (length (a .to .now)) = omega arith in
-    l .loop .inv .3 ∙ ap (λ (n : ℕ). take n (a .from .now) ++ drop n (a .to .now)) e)
+    let at-loop = c .before .before in
+    let a = at-loop .before .args in
+    let e : at-loop .loop .i ≡ min (length (a .from .now)) (length (a .to .now)) = omega arith in
+    at-loop .loop .inv .3 ∙ ap (λ (n : ℕ). take n (a .from .now) ++ drop n (a .to .now)) e)
     (λ c. omega arith)
     (λ c. omega arith)
     (λ c. omega arith)
@@ -33,13 +33,13 @@ copy-spec =
     (λ c. omega arith)
     (λ c. omega arith)
     (λ c.
-    let l = c .before .before .before in
-    let a = l .before .args in
-    let i : ℕ = l .loop .i in
-    (omega arith, omega arith, simp length-set (omega arith), ap (λ (t : List ℕ). set t i (getD (a .from .now) i 0)) (l .loop .inv .3) ∙ copied-more i (a .from .now) (a .to .now) (omega arith) (omega arith)))
+    let at-loop = c .before .before .before in
+    let a = at-loop .before .args in
+    let i : ℕ = at-loop .loop .i in
+    (omega arith, omega arith, simp length-set (omega arith), ap (λ (t : List ℕ). set t i (getD (a .from .now) i 0)) (at-loop .loop .inv .3) ∙ copied-more i (a .from .now) (a .to .now) (omega arith) (omega arith)))
     (λ c. omega arith)
     (λ c.
-    let l = c .before in
-    let a = l .before .args in
-    let e : l .loop .i ≡ min (length (a .from .now)) (length (a .to .now)) = omega arith in
-    l .loop .inv .3 ∙ ap (λ (n : ℕ). take n (a .from .now) ++ drop n (a .to .now)) e))
+    let at-loop = c .before in
+    let a = at-loop .before .args in
+    let e : at-loop .loop .i ≡ min (length (a .from .now)) (length (a .to .now)) = omega arith in
+    at-loop .loop .inv .3 ∙ ap (λ (n : ℕ). take n (a .from .now) ++ drop n (a .to .now)) e))

@@ -7,4 +7,4 @@ use Rattle.probe.proofs.on_records.probe_check.Statement.{statement}
 use Rattle.probe.proofs.on_records.probe_check.Tie as tie
 
 pub probe-check-spec : {M : Type 1} → statement M
-probe-check-spec = tie.close (tie.spec (λ c. inl (omega arith, refl)) (λ c κs. search needs) (λ c κs. search needs) (λ c. search needs) (λ c. let t = c .before .before in inr (omega arith, (t .before .check .result, t .before .check .ensures, t .tell .ensures))))
+probe-check-spec = tie.close (tie.spec (λ c. inl (omega arith, refl)) (λ c κs. search needs) (λ c κs. search needs) (λ c. search needs) (λ c. let at-tell = c .before .before in inr (omega arith, (at-tell .before .check .result, at-tell .before .check .ensures, at-tell .tell .ensures))))

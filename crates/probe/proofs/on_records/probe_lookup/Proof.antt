@@ -7,4 +7,4 @@ use Rattle.probe.proofs.on_records.probe_lookup.Statement.{statement}
 use Rattle.probe.proofs.on_records.probe_lookup.Tie as tie
 
 pub probe-lookup-spec : {M : Type 1} → statement M
-probe-lookup-spec = tie.close (tie.spec (λ c. inl (omega arith, refl)) (λ c κs. search needs) (λ c κs. search needs) (λ c. search needs) (λ c. let t = c .before .before in inr (omega arith, (t .before .lookup .result, t .before .lookup .ensures, t .tell .ensures))))
+probe-lookup-spec = tie.close (tie.spec (λ c. inl (omega arith, refl)) (λ c κs. search needs) (λ c κs. search needs) (λ c. search needs) (λ c. let at-tell = c .before .before in inr (omega arith, (at-tell .before .lookup .result, at-tell .before .lookup .ensures, at-tell .tell .ensures))))

@@ -11,16 +11,16 @@ use Rattle.probe.proofs.on_records.probe_met.Tie as tie
 
 returns-2 : tie.Need-returns-2
 returns-2 c =
-    let t = c .before .before in
-    let a = t .before .before in
-    let k = a .before .before .before in
-    let m = k .before .before in
-    let s = m .before .before .before .before .before in
-    let g = s .args in
-    let f = s .fits in
-    let at = signed-axes (λ d. MetAtOf (g .depth) (g .list .now) (g .code) d (a .met-at .result)) _ _ _ (f .dx) (f .dy) (f .dz) (a .met-at .ensures) in
-    let found = signed-axes (λ d. MetOf (g .depth) (g .list .now) (ptr (g .list)) (g .code) d (m .met .result .now) (ptr (m .met .result))) _ _ _ (f .dx) (f .dy) (f .dz) (m .met .ensures) in
-    inr (omega arith, (_, _, _, at, found, t .tell .ensures, k .copy .ensures))
+    let at-tell = c .before .before in
+    let at-met-at = at-tell .before .before in
+    let at-copy = at-met-at .before .before .before in
+    let at-met = at-copy .before .before in
+    let start = at-met .before .before .before .before .before in
+    let g = start .args in
+    let f = start .fits in
+    let at = signed-axes (λ d. MetAtOf (g .depth) (g .list .now) (g .code) d (at-met-at .met-at .result)) _ _ _ (f .dx) (f .dy) (f .dz) (at-met-at .met-at .ensures) in
+    let found = signed-axes (λ d. MetOf (g .depth) (g .list .now) (ptr (g .list)) (g .code) d (at-met .met .result .now) (ptr (at-met .met .result))) _ _ _ (f .dx) (f .dy) (f .dz) (at-met .met .ensures) in
+    inr (omega arith, (_, _, _, at, found, at-tell .tell .ensures, at-copy .copy .ensures))
 
 pub probe-met-spec : {M : Type 1} → statement M
 probe-met-spec =

@@ -7,4 +7,4 @@ use Rattle.probe.proofs.on_records.probe_volume.Statement.{statement}
 use Rattle.probe.proofs.on_records.probe_volume.Tie as tie
 
 pub probe-volume-spec : {M : Type 1} → statement M
-probe-volume-spec = tie.close (tie.spec (λ c. inl (omega arith, refl)) (λ c κs. search needs) (λ c κs. search needs) (λ c. search needs) (λ c. let t = c .before .before in inr (omega arith, (t .before .volume .result, t .before .volume .ensures, t .tell .ensures))))
+probe-volume-spec = tie.close (tie.spec (λ c. inl (omega arith, refl)) (λ c κs. search needs) (λ c κs. search needs) (λ c. search needs) (λ c. let at-tell = c .before .before in inr (omega arith, (at-tell .before .volume .result, at-tell .before .volume .ensures, at-tell .tell .ensures))))

@@ -7,4 +7,4 @@ use Rattle.probe.proofs.on_sets.probe_join.Statement.{statement}
 use Rattle.probe.proofs.on_sets.probe_join.Tie as tie
 
 pub probe-join-spec : {M : Type 1} → statement M
-probe-join-spec = tie.close (tie.spec (λ c. inl (omega arith, (refl, refl))) (λ c κs. search needs) (λ c κs. search needs) (λ c. search needs) (λ c. search needs) (λ c. let t = c .before .before in let s = t .before .before .before .before in inr (omega arith, (s .join .result, s .join .ensures, t .tell .ensures))))
+probe-join-spec = tie.close (tie.spec (λ c. inl (omega arith, (refl, refl))) (λ c κs. search needs) (λ c κs. search needs) (λ c. search needs) (λ c. search needs) (λ c. let at-tell = c .before .before in let at-join = at-tell .before .before .before .before in inr (omega arith, (at-join .join .result, at-join .join .ensures, at-tell .tell .ensures))))

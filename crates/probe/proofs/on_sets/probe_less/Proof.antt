@@ -7,4 +7,4 @@ use Rattle.probe.proofs.on_sets.probe_less.Statement.{statement}
 use Rattle.probe.proofs.on_sets.probe_less.Tie as tie
 
 pub probe-less-spec : {M : Type 1} → statement M
-probe-less-spec = tie.close (tie.spec (λ c. inl (omega arith, (refl, refl))) (λ c κs. search needs) (λ c κs. search needs) (λ c. search needs) (λ c. search needs) (λ c. let t = c .before .before in let s = t .before .before .before .before in inr (omega arith, (s .subtract .result, s .subtract .ensures, t .tell .ensures))))
+probe-less-spec = tie.close (tie.spec (λ c. inl (omega arith, (refl, refl))) (λ c κs. search needs) (λ c κs. search needs) (λ c. search needs) (λ c. search needs) (λ c. let at-tell = c .before .before in let at-subtract = at-tell .before .before .before .before in inr (omega arith, (at-subtract .subtract .result, at-subtract .subtract .ensures, at-tell .tell .ensures))))

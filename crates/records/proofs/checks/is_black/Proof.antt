@@ -12,11 +12,11 @@ pub is-black-spec : {M : Type 1} → statement M
 is-black-spec =
     tie.close
     (tie.spec
-    (λ c. let s = c .before in omega (arith, codes-fit (s .args .depth) (s .pre .0), s .pre .2))
-    (λ c κs. let s = c .before in record { shallow = s .pre .0; ordered = s .pre .1; rising = zero-le; within = le-refl _ })
-    (λ c κs. let s = c .before .before in (s .pre .0, s .pre .1, c .first-from .ensures .high))
+    (λ c. let start = c .before in omega (arith, codes-fit (start .args .depth) (start .pre .0), start .pre .2))
+    (λ c κs. let start = c .before in record { shallow = start .pre .0; ordered = start .pre .1; rising = zero-le; within = le-refl _ })
+    (λ c κs. let start = c .before .before in (start .pre .0, start .pre .1, c .first-from .ensures .high))
     (λ c.
-    let s = c .before .before .before in
-    let a = s .args in
+    let start = c .before .before .before in
+    let a = start .args in
     let f = c .before .first-from in
-    c .last-reaches .ensures ∙ black-last (a .depth) (a .list .now) (s .pre .1) (a .v) (f .result) (starts-same (omega arith) (f .ensures))))
+    c .last-reaches .ensures ∙ black-last (a .depth) (a .list .now) (start .pre .1) (a .v) (f .result) (starts-same (omega arith) (f .ensures))))

@@ -23,14 +23,14 @@ module _ (c : tie.After-judge) where
 
 returns-3 : tie.Need-returns-3
 returns-3 c =
-    let j = c .before .before .before in
-    let w = j .judge .ensures in
-    let z : j .judge .result .number ≡ 0 = search needs in
+    let at-judge = c .before .before .before in
+    let w = at-judge .judge .ensures in
+    let z : at-judge .judge .result .number ≡ 0 = search needs in
     inr (
-      passes (deep-enough (deep j .if1 .left)),
+      passes (deep-enough (deep at-judge .if1 .left)),
       inr (
-        walked-passes (D j) (l j) _ w 1 z,
-        c .success .ensures ∙ ap given (walked-volume (D j) (l j) _ w z ∙ sym (list-volume (D j) 0 (l j) (walked-good (D j) (l j) _ w z .ordered))),
+        walked-passes (D at-judge) (l at-judge) _ w 1 z,
+        c .success .ensures ∙ ap given (walked-volume (D at-judge) (l at-judge) _ w z ∙ sym (list-volume (D at-judge) 0 (l at-judge) (walked-good (D at-judge) (l at-judge) _ w z .ordered))),
       ),
     )
 
@@ -42,7 +42,7 @@ volume-spec =
     (λ c. inl (_, (c .before .if1 .taken, refl), c .refusal .ensures))
     (λ c κs. search needs) (λ c κs. search needs)
     (λ c.
-    let j = c .before .before in
-    inr (passes (deep-enough (deep j .if1 .left)), inl (_, walked-refuses (D j) (l j) _ (j .judge .ensures) 1 (c .before .if2 .taken), c .refusal2 .ensures)))
+    let at-judge = c .before .before in
+    inr (passes (deep-enough (deep at-judge .if1 .left)), inl (_, walked-refuses (D at-judge) (l at-judge) _ (at-judge .judge .ensures) 1 (c .before .if2 .taken), c .refusal2 .ensures)))
     (λ c. search needs) (λ c κs. search needs)
     returns-3)

@@ -26,47 +26,47 @@ abbrev μ-loop : tie.MeasureT-loop
 -- ---- the leaf in the middle
 
 module _ (c : tie.In-loop Inv-loop μ-loop) where
-  abbrev s : tie.Start Inv-loop μ-loop
-  s = c .before .before .before
+  abbrev at-start : tie.Start Inv-loop μ-loop
+  at-start = c .before .before .before
 
-  abbrev u : tie.At-loop Inv-loop μ-loop
-  u = c .before
+  abbrev at-loop : tie.At-loop Inv-loop μ-loop
+  at-loop = c .before
 
   abbrev mid : ℕ
-  mid = u .loop .a + (u .loop .b - u .loop .a) / 2
+  mid = at-loop .loop .a + (at-loop .loop .b - at-loop .loop .a) / 2
 
-  below-hi : mid < s .args .hi
-  below-hi = omega (arith, u .loop .inv .to, c .loop-test .taken)
+  below-hi : mid < at-start .args .hi
+  below-hi = omega (arith, at-loop .loop .inv .to, c .loop-test .taken)
 
-  within : mid < length (s .args .l .now)
-  within = omega (arith, below-hi, s .pre .within)
+  within : mid < length (at-start .args .l .now)
+  within = omega (arith, below-hi, at-start .pre .within)
 
 loop-again : tie.Need-loop-again Inv-loop μ-loop
 loop-again c =
-    let t = c .before .before .before in
-    let a = s t .args in
-    let o = s t .pre .ordered in
-    let v = u t .loop .inv in
+    let in-loop = c .before .before .before in
+    let a = at-start in-loop .args in
+    let o = at-start in-loop .pre .ordered in
+    let v = at-loop in-loop .loop .inv in
     record {
       from = omega (arith, v .from);
-      order = omega (arith, t .loop-test .taken);
+      order = omega (arith, in-loop .loop-test .taken);
       to = v .to;
-      below = λ i p q. omega (arith, starts-rise (a .depth) (a .l .now) o i (mid t) (omega arith) (within t), c .if1 .taken, c .before .first .ensures);
+      below = λ i p q. omega (arith, starts-rise (a .depth) (a .l .now) o i (mid in-loop) (omega arith) (within in-loop), c .if1 .taken, c .before .first .ensures);
       above = v .above;
     }
 
 loop-again-2 : tie.Need-loop-again-2 Inv-loop μ-loop
 loop-again-2 c =
-    let t = c .before .before .before in
-    let a = s t .args in
-    let o = s t .pre .ordered in
-    let v = u t .loop .inv in
+    let in-loop = c .before .before .before in
+    let a = at-start in-loop .args in
+    let o = at-start in-loop .pre .ordered in
+    let v = at-loop in-loop .loop .inv in
     record {
       from = v .from;
       order = omega arith;
-      to = omega (arith, below-hi t);
+      to = omega (arith, below-hi in-loop);
       below = v .below;
-      above = λ i p q. omega (arith, starts-rise (a .depth) (a .l .now) o (mid t) i p (omega (arith, s t .pre .within)), c .if1 .left, c .before .first .ensures);
+      above = λ i p q. omega (arith, starts-rise (a .depth) (a .l .now) o (mid in-loop) i p (omega (arith, at-start in-loop .pre .within)), c .if1 .left, c .before .first .ensures);
     }
 
 pub first-from-spec : {M : Type 1} → statement M
@@ -77,8 +77,8 @@ first-from-spec =
     (λ c. record { from = omega arith; order = omega arith; to = omega arith; below = λ i p q. absurd (omega arith); above = λ i p q. absurd (omega arith) })
     (λ c. search needs) (λ c. search needs) (λ c. search needs) (λ c. search needs)
     (λ c κs.
-    let t = c .before in
-    (s t .pre .shallow, proper-at (s t .args .depth) (s t .args .l .now) (s t .pre .ordered) (mid t) (within t)))
+    let in-loop = c .before in
+    (at-start in-loop .pre .shallow, proper-at (at-start in-loop .args .depth) (at-start in-loop .args .l .now) (at-start in-loop .pre .ordered) (mid in-loop) (within in-loop)))
     (λ c. search needs) (λ c. search needs)
     loop-again
     (λ c. search needs)

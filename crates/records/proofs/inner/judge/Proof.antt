@@ -18,16 +18,16 @@ abbrev μ-loop : tie.MeasureT-loop
 -- ---- in the loop
 
 module _ (c : tie.In-loop Inv-loop μ-loop) where
-  abbrev s : tie.Start Inv-loop μ-loop
-  s = c .before .before .before .before
+  abbrev start : tie.Start Inv-loop μ-loop
+  start = c .before .before .before .before
 
 -- a leaf more is passed
 module _ (c : tie.After-step Inv-loop μ-loop) where
-  abbrev p : tie.In-loop Inv-loop μ-loop
-  p = c .before .before
+  abbrev in-loop : tie.In-loop Inv-loop μ-loop
+  in-loop = c .before .before
 
-  more : Walked (s p .args .depth) (s p .args .list .now) (p .before .loop .i + 1) (c .step .result)
-  more = c .step .ensures (s p .args .list .now) (p .before .loop .i) (p .before .loop .inv .2) refl
+  more : Walked (start in-loop .args .depth) (start in-loop .args .list .now) (in-loop .before .loop .i + 1) (c .step .result)
+  more = c .step .ensures (start in-loop .args .list .now) (in-loop .before .loop .i) (in-loop .before .loop .inv .2) refl
 
 pub judge-spec : {M : Type 1} → statement M
 judge-spec =
@@ -37,10 +37,10 @@ judge-spec =
     (λ c κs. search needs)
     (λ c. (search needs, c .begin .ensures .0, c .begin .ensures .1 _ _))
     (λ c. search needs) (λ c. search needs)
-    (λ c κs. let t = c .before in (s t .pre, (s t .args .list .now, t .before .loop .i, t .before .loop .inv .2)))
-    (λ c. stays (more (c .before)) (c .if1 .taken) (omega (arith, p (c .before) .loop-test .taken)))
+    (λ c κs. let in-loop = c .before in record { deep = start in-loop .pre; list = start in-loop .args .list .now; index = in-loop .before .loop .i; kept = in-loop .before .loop .inv .2 })
+    (λ c. stays (more (c .before)) (c .if1 .taken) (omega (arith, in-loop (c .before) .loop-test .taken)))
     (λ c. search needs) (λ c. search needs)
-    (λ c. let z : c .before .step .result .number ≡ 0 = search needs in (omega (arith, p (c .before) .loop-test .taken), z, more (c .before) .kept z))
+    (λ c. let z : c .before .step .result .number ≡ 0 = search needs in (omega (arith, in-loop (c .before) .loop-test .taken), z, more (c .before) .kept z))
     (λ c.
     let a = c .before .before .before .before .args in
     let o = c .before .loop in

@@ -15,14 +15,14 @@ use Rattle.records.proofs.inner.last_reaches.Tie as tie
 -- ---- the leaf before the place
 
 module _ (c : tie.Else1) where
-  abbrev s : tie.Start
-  s = c .before .before
+  abbrev start : tie.Start
+  start = c .before .before
 
   abbrev leaf : ℕ
-  leaf = getD (s .args .l .now) (s .args .at - 1) 0
+  leaf = getD (start .args .l .now) (start .args .at - 1) 0
 
-  is : proper (s .args .depth) leaf ≡ true
-  is = proper-at (s .args .depth) (s .args .l .now) (s .pre .1) (s .args .at - 1) (omega (arith, c .if1 .left, s .pre .2))
+  is : proper (start .args .depth) leaf ≡ true
+  is = proper-at (start .args .depth) (start .args .l .now) (start .pre .1) (start .args .at - 1) (omega (arith, c .if1 .left, start .pre .2))
 
 pub last-reaches-spec : {M : Type 1} → statement M
 last-reaches-spec =
@@ -30,13 +30,13 @@ last-reaches-spec =
     (tie.spec
     (λ c. let a = c .before .before .args in sym (reaches-none (a .depth) (a .l .now) (a .at) (a .v) (c .if1 .taken)))
     (λ c. search needs) (λ c. search needs) (λ c. search needs)
-    (λ c κs. let u = c .before in (s u .pre .0, is u))
-    (λ c κs. let u = c .before .before in (s u .pre .0, is u))
+    (λ c κs. let else1 = c .before in (start else1 .pre .0, is else1))
+    (λ c κs. let else1 = c .before .before in (start else1 .pre .0, is else1))
     (λ c.
-    let u = c .before .before .before in
-    let a = s u .args in
-    omega (arith, c .before .first .ensures, c .width .ensures, end-fits (a .depth) (leaf u) (s u .pre .0) (is u)))
+    let else1 = c .before .before .before in
+    let a = start else1 .args in
+    omega (arith, c .before .first .ensures, c .width .ensures, end-fits (a .depth) (leaf else1) (start else1 .pre .0) (is else1)))
     (λ c.
-    let u = c .before .before .before in
-    let a = s u .args in
-    ap (ltb (a .v)) (omega (arith, c .before .first .ensures, c .width .ensures)) ∙ sym (reaches-is (a .depth) (a .l .now) (a .at) (a .v) (omega (arith, u .if1 .left)))))
+    let at-if1 = c .before .before .before in
+    let a = start at-if1 .args in
+    ap (ltb (a .v)) (omega (arith, c .before .first .ensures, c .width .ensures)) ∙ sym (reaches-is (a .depth) (a .l .now) (a .at) (a .v) (omega (arith, at-if1 .if1 .left)))))

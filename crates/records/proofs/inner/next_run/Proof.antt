@@ -17,9 +17,9 @@ returns-2 c =
 
 returns-3 : tie.Need-returns-3
 returns-3 c =
-    let u = c .before .before in
-    let s = u .before .args in
-    omega (arith, next-more (s .last) (s .run) (s .code) (u .if1 .left) (omega (arith, c .before .if2 .left)) (c .if3 .taken), u .before .pre (c .before .if2 .left), c .if3 .taken, u .if1 .left)
+    let at-if1 = c .before .before in
+    let s = at-if1 .before .args in
+    omega (arith, next-more (s .last) (s .run) (s .code) (at-if1 .if1 .left) (omega (arith, c .before .if2 .left)) (c .if3 .taken), at-if1 .before .pre (c .before .if2 .left), c .if3 .taken, at-if1 .if1 .left)
 
 returns-4 : tie.Need-returns-4
 returns-4 c =

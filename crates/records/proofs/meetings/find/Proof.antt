@@ -23,20 +23,20 @@ use Rattle.records.proofs.meetings.find.Tie as tie
 -- ---- what `check` told
 
 module _ (c : tie.After-check) where
-  abbrev s : tie.Start
-  s = c .before .before
+  abbrev start : tie.Start
+  start = c .before .before
 
   abbrev D : ℕ
-  D = s .args .depth
+  D = start .args .depth
 
   abbrev l : List ℕ
-  l = s .args .list .now
+  l = start .args .list .now
 
   abbrev code : ℕ
-  code = s .args .code
+  code = start .args .code
 
   abbrev d : ℕ → ℤ
-  d = axes (s .args .dx) (s .args .dy) (s .args .dz)
+  d = axes (start .args .dx) (start .args .dy) (start .args .dz)
 
   -- the neighbour's tests past the depth's
   abbrev left : List Test
@@ -46,52 +46,52 @@ module _ (c : tie.After-check) where
   Told = Met D l code d
 
 module _ (c : tie.Else1) where
-  abbrev t : tie.After-check
-  t = c .before
+  abbrev at-check : tie.After-check
+  at-check = c .before
 
-  none : t .check .result .number ≡ 0
+  none : at-check .check .result .number ≡ 0
   none = search needs
 
-  known : Checked (D t) (l t) (t .check .result .place)
-  known = opening-known (checks (D t) (l t)) (t .check .result) (t .check .ensures) none
+  known : Checked (D at-check) (l at-check) (at-check .check .result .place)
+  known = opening-known (checks (D at-check) (l at-check)) (at-check .check .result) (at-check .check .ensures) none
 
-  next : (r : Meeting) → Decided unmet (left t) (Told t) r → MeetingOf (D t) (l t) (code t) (d t) r
-  next r x = opening-passes (checks (D t) (l t)) (t .check .result) (t .check .ensures) unmet (left t) (Told t) r none x
+  next : (r : Meeting) → Decided unmet (left at-check) (Told at-check) r → MeetingOf (D at-check) (l at-check) (code at-check) (d at-check) r
+  next r x = opening-passes (checks (D at-check) (l at-check)) (at-check .check .result) (at-check .check .ensures) unmet (left at-check) (Told at-check) r none x
 
 -- ---- what `neighbour` told
 
 module _ (c : tie.After-neighbour) where
-  abbrev e : tie.Else1
-  e = c .before
+  abbrev else1 : tie.Else1
+  else1 = c .before
 
-  abbrev b : tie.Start
-  b = s (t e)
+  abbrev at-start : tie.Start
+  at-start = start (at-check else1)
 
   abbrev Given : Answer → Type 0
-  Given r = (m : ℕ) × Neighbour (D (t e)) (code (t e)) (d (t e)) m × (r ≡ given m)
+  Given r = (m : ℕ) × Neighbour (D (at-check else1)) (code (at-check else1)) (d (at-check else1)) m × (r ≡ given m)
 
-  answered : NeighbourOf (D (t e)) (code (t e)) (d (t e)) (c .neighbour .result)
-  answered = signed-axes (λ x. NeighbourOf (D (t e)) (code (t e)) x (c .neighbour .result)) _ _ _ (b .fits .dx) (b .fits .dy) (b .fits .dz) (c .neighbour .ensures)
+  answered : NeighbourOf (D (at-check else1)) (code (at-check else1)) (d (at-check else1)) (c .neighbour .result)
+  answered = signed-axes (λ x. NeighbourOf (D (at-check else1)) (code (at-check else1)) x (c .neighbour .result)) _ _ _ (at-start .fits .dx) (at-start .fits .dy) (at-start .fits .dz) (c .neighbour .ensures)
 
-  decided : Decided alone (left (t e)) Given (c .neighbour .result)
-  decided = decided-past alone (TooDeep deepest (D (t e))) (left (t e)) Given (c .neighbour .result) (passes (deep-enough (known e .shallow))) answered
+  decided : Decided alone (left (at-check else1)) Given (c .neighbour .result)
+  decided = decided-past alone (TooDeep deepest (D (at-check else1))) (left (at-check else1)) Given (c .neighbour .result) (passes (deep-enough (known else1 .shallow))) answered
 
 -- where its number is 0, its place is the neighbour, and fits a word
 module _ (c : tie.Else2) where
-  abbrev n : tie.After-neighbour
-  n = c .before
+  abbrev at-neighbour : tie.After-neighbour
+  at-neighbour = c .before
 
   abbrev m : ℕ
-  m = n .neighbour .result .place
+  m = at-neighbour .neighbour .result .place
 
-  success : n .neighbour .result .number ≡ 0
+  success : at-neighbour .neighbour .result .number ≡ 0
   success = search needs
 
-  is-next : Neighbour (D (t (e n))) (code (t (e n))) (d (t (e n))) m
-  is-next = opening-known (neighbours (D (t (e n))) (code (t (e n))) (d (t (e n)))) (n .neighbour .result) (decided n) success
+  is-next : Neighbour (D (at-check (else1 at-neighbour))) (code (at-check (else1 at-neighbour))) (d (at-check (else1 at-neighbour))) m
+  is-next = opening-known (neighbours (D (at-check (else1 at-neighbour))) (code (at-check (else1 at-neighbour))) (d (at-check (else1 at-neighbour)))) (at-neighbour .neighbour .result) (decided at-neighbour) success
 
   small : m < 2 ^ wordBits
-  small = code-fits (D (t (e n))) m (known (e n) .shallow) (is-next .is-proper)
+  small = code-fits (D (at-check (else1 at-neighbour))) m (known (else1 at-neighbour) .shallow) (is-next .is-proper)
 
 pub find-spec : {M : Type 1} → statement M
 find-spec =
@@ -99,17 +99,17 @@ find-spec =
     (tie.spec
     (λ c κs. search needs) (λ c κs. search needs)
     (λ c.
-    let t = c .before .before in
-    rw (c .none .ensures) (opening-refuses (checks (D t) (l t)) (t .check .result) (t .check .ensures) unmet (left t) (Told t) (c .before .if1 .taken)))
+    let at-check = c .before .before in
+    rw (c .none .ensures) (opening-refuses (checks (D at-check) (l at-check)) (at-check .check .result) (at-check .check .ensures) unmet (left at-check) (Told at-check) (c .before .if1 .taken)))
     (λ c κs. search needs) (λ c κs. search needs)
     (λ c.
-    let n = c .before .before in
-    let u = t (e n) in
-    next (e n) _ (rw (c .none2 .ensures) (opening-refuses (neighbours (D u) (code u) (d u)) (n .neighbour .result) (decided n) unmet [] (Told u) (c .before .if2 .taken))))
+    let at-neighbour = c .before .before in
+    let checked = at-check (else1 at-neighbour) in
+    next (else1 at-neighbour) _ (rw (c .none2 .ensures) (opening-refuses (neighbours (D checked) (code checked) (d checked)) (at-neighbour .neighbour .result) (decided at-neighbour) unmet [] (Told checked) (c .before .if2 .taken))))
     (λ c. omega (arith, small c))
-    (λ c κs. let k = known (e (c .before)) in (k .shallow, k .good .ordered, is-next c .is-proper))
+    (λ c κs. let k = known (else1 (c .before)) in (k .shallow, k .good .ordered, is-next c .is-proper))
     (λ c.
-    let q = c .before in
-    let n = q .before in
-    let u = t (e n) in
-    next (e n) _ (opening-passes (neighbours (D u) (code u) (d u)) (n .neighbour .result) (decided n) unmet [] (Told u) (c .part .result) (success q) (_, is-next q, c .part .ensures .0, c .part .ensures .1))))
+    let else2 = c .before in
+    let at-neighbour = else2 .before in
+    let checked = at-check (else1 at-neighbour) in
+    next (else1 at-neighbour) _ (opening-passes (neighbours (D checked) (code checked) (d checked)) (at-neighbour .neighbour .result) (decided at-neighbour) unmet [] (Told checked) (c .part .result) (success else2) (_, is-next else2, c .part .ensures .0, c .part .ensures .1))))

@@ -18,33 +18,33 @@ use Rattle.records.proofs.meetings.met.Tie as tie
 -- ---- what was found
 
 module _ (c : tie.After-find) where
-  abbrev s : tie.Start
-  s = c .before .before
+  abbrev start : tie.Start
+  start = c .before .before
 
   abbrev l : List ℕ
-  l = s .args .list .now
+  l = start .args .list .now
 
   abbrev d : ℕ → ℤ
-  d = axes (s .args .dx) (s .args .dy) (s .args .dz)
+  d = axes (start .args .dx) (start .args .dy) (start .args .dz)
 
   abbrev r : Meeting
   r = c .find .result
 
-  found : MeetingOf (s .args .depth) l (s .args .code) d r
-  found = signed-axes (λ x. MeetingOf (s .args .depth) l (s .args .code) x r) _ _ _ (s .fits .dx) (s .fits .dy) (s .fits .dz) (c .find .ensures)
+  found : MeetingOf (start .args .depth) l (start .args .code) d r
+  found = signed-axes (λ x. MeetingOf (start .args .depth) l (start .args .code) x r) _ _ _ (start .fits .dx) (start .fits .dy) (start .fits .dz) (c .find .ensures)
 
   within : r .at + r .n ≤ length l
-  within = within-list (s .args .depth) l (s .args .code) d r found
+  within = within-list (start .args .depth) l (start .args .code) d r found
 
 returns : tie.Need-returns
 returns c =
-    let f = c .before .before in
-    let many : r f .at + r f .n - r f .at ≡ r f .n = omega arith in
+    let at-find = c .before .before in
+    let many : r at-find .at + r at-find .n - r at-find .at ≡ r at-find .n = omega arith in
     record {
-      meeting = r f;
-      found = found f;
-      codes = ap (λ (k : ℕ). take k (drop (r f .at) (l f))) many;
-      begins = ap (λ (k : ℕ). (s f .args .list .ptr .0, k)) (add-comm (r f .at * 4) (s f .args .list .ptr .1));
+      meeting = r at-find;
+      found = found at-find;
+      codes = ap (λ (k : ℕ). take k (drop (r at-find .at) (l at-find))) many;
+      begins = ap (λ (k : ℕ). (start at-find .args .list .ptr .0, k)) (add-comm (r at-find .at * 4) (start at-find .args .list .ptr .1));
     }
 
 pub met-spec : {M : Type 1} → statement M

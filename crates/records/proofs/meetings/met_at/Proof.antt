@@ -8,8 +8,8 @@ use Rattle.records.proofs.meetings.met_at.Tie as tie
 
 returns : tie.Need-returns
 returns c =
-    let s = c .before .before .before in
-    (_, signed-axes (λ d. MeetingOf (s .args .depth) (s .args .list .now) (s .args .code) d (c .before .find .result)) _ _ _ (s .fits .dx) (s .fits .dy) (s .fits .dz) (c .before .find .ensures), refl)
+    let start = c .before .before .before in
+    (_, signed-axes (λ d. MeetingOf (start .args .depth) (start .args .list .now) (start .args .code) d (c .before .find .result)) _ _ _ (start .fits .dx) (start .fits .dy) (start .fits .dz) (c .before .find .ensures), refl)
 
 pub met-at-spec : {M : Type 1} → statement M
 met-at-spec = tie.close (tie.spec (λ c κs. search needs) returns)

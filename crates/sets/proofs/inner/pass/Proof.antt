@@ -10,12 +10,12 @@ module _ (c : tie.Else1) where
 
   -- the leaf's end is reached
   ended : Behind (start .args .depth) (start .args .list .now) (start .args .c .at) (start .args .next)
-  ended = behind-next (start .pre .2 .2) (start .pre .1) (c .if1 .left)
+  ended = behind-next (start .pre .points) (start .pre .reach) (c .if1 .left)
 
 pub pass-spec : {M : Type 1} → statement M
 pass-spec =
     tie.close
     (tie.spec
-    (λ c. let (v, h, p) = c .before .before .before .pre .2 in points-later p h (λ _. c .if1 .taken))
-    (λ c κs. (start c .pre .0, (start c .args .next, ended c)))
+    (λ c. let x = c .before .before .before .pre in points-later (x .points) (x .forth) (λ _. c .if1 .taken))
+    (λ c κs. (start c .pre .deep, (start c .args .next, ended c)))
     (λ c. c .load .ensures _ (ended (c .before))))

@@ -2,13 +2,15 @@
 -- after v. A turn looks up to where both lists keep their colour, hands that piece to the emitter, moves the cursors and jumps to the next leaf. Assumes nothing.
 use mathlib.Core.Path.{sym, ap, _∙_}
 use mathlib.Core.Bool.{Bool}
-use Prim.Native.Nat.{ℕ, _-_, _^_, _<_}
+use mathlib.Core.List.{List}
+use Prim.Native.Nat.{ℕ, _-_, _^_, _≤_, _<_}
 use native.Mathlib.Omega.{arith}
 use lib.ListN.{length}
 use lib.Seq.{length-sets}
 use Rattle.emit.specs.Inner.{fresh, Fed, Result}
 use Rattle.emit.proofs.Runs.{fed-none, fed-to, fed-then, fed-all}
-use Rattle.sets.specs.Inner.{both}
+use Rattle.sets.specs.Inner.{both, Points, Passing}
+use Rattle.sets.specs.declared.inner.Cursor.{Cursor}
 use Rattle.sets.proofs.Cursors.{behind-none}
 use Rattle.sets.proofs.Pieces.{Piece, piece, Swept, jump}
 use Rattle.sets.proofs.inner.sweep.Statement.{statement}
@@ -22,12 +24,12 @@ abbrev μ-loop : tie.MeasureT-loop
 
 loop-holds : tie.Need-loop-holds Inv-loop μ-loop
 loop-holds c =
-    let s = c .before .before .before .before .before .before .before in
+    let start = c .before .before .before .before .before .before .before in
     jump (omega (arith, c .least .ensures))
     (record {
       fed = fed-none _ _ 0 _ (fresh 0 0) (record { run = omega arith; past = omega arith; few = omega arith; root = omega arith });
-      left = c .before .before .load .ensures 0 (behind-none (s .pre .1));
-      right = c .before .load2 .ensures 0 (behind-none (s .pre .2));
+      left = c .before .before .load .ensures 0 (behind-none (start .pre .1));
+      right = c .before .load2 .ensures 0 (behind-none (start .pre .2));
     })
 
 -- what a turn looks at
@@ -44,15 +46,19 @@ module _ (c : tie.After-least2 Inv-loop μ-loop) where
       let inside : at-loop .loop .v < 8 ^ start .args .depth = omega (arith, c .before .before .before .loop-test .taken, at-loop .before .before .before .before .pow8 .ensures) in
       piece (inv .left) (c .before .before .look .ensures _ _ inside (inv .left)) (c .before .look2 .ensures _ _ inside (inv .right)) (c .least2 .ensures)
 
+  -- a cursor that the piece's end does not pass comes up to it
+  come : {l : List ℕ} {x : Cursor} → c .least2 .result ≤ x .to → Points (start .args .depth) l x (at-loop .loop .v) → Passing (start .args .depth) l x (c .least2 .result)
+  come reach p = record { deep = start .pre .0; reach = reach; from = at-loop .loop .v; forth = omega (arith, turn .some); points = p }
+
 loop-again : tie.Need-loop-again Inv-loop μ-loop
 loop-again c =
     let passed = c .before .before in
     let pushed = passed .before .before .before .before in
     let chose = pushed .before .before in
-    let u = chose .before in
+    let at-least2 = chose .before in
     jump (omega (arith, c .greatest .ensures, c .before .least3 .ensures))
     (record {
-      fed = fed-then _ _ (at-loop u .loop .inv .fed) (pushed .push .ensures _ (λ w m n. turn u .same w m n ∙ sym (chose .choose .ensures)));
+      fed = fed-then _ _ (at-loop at-least2 .loop .inv .fed) (pushed .push .ensures _ (λ w m n. turn at-least2 .same w m n ∙ sym (chose .choose .ensures)));
       left = passed .before .pass .ensures;
       right = passed .pass2 .ensures;
     })
@@ -90,13 +96,13 @@ sweep-spec =
     (λ c κs. tt)
     (λ c κs. tt)
     (λ c κs.
-    let u = c .before .before in
-    record { deep = start u .pre .0; ready = at-loop u .loop .inv .fed .ready; some = turn u .some; root = turn u .root })
-    (λ c κs. let u = c .before .before .before .before .before in (start u .pre .0, turn u .left, (at-loop u .loop .v, omega (arith, turn u .some), at-loop u .loop .inv .left)))
-    (λ c κs. let u = c .before .before .before .before .before .before in (start u .pre .0, turn u .right, (at-loop u .loop .v, omega (arith, turn u .some), at-loop u .loop .inv .right)))
+    let at-least2 = c .before .before in
+    record { deep = start at-least2 .pre .0; ready = at-loop at-least2 .loop .inv .fed .ready; some = turn at-least2 .some; root = turn at-least2 .root })
+    (λ c κs. let at-least2 = c .before .before .before .before .before in come at-least2 (turn at-least2 .left) (at-loop at-least2 .loop .inv .left))
+    (λ c κs. let at-least2 = c .before .before .before .before .before .before in come at-least2 (turn at-least2 .right) (at-loop at-least2 .loop .inv .right))
     (λ c κs. tt)
     (λ c κs. tt)
-    (λ c. let u = c .before .before .before .before .before .before .before .before .before in omega (arith, turn u .some, u .before .before .before .loop-test .taken, c .greatest .ensures))
+    (λ c. let at-least2 = c .before .before .before .before .before .before .before .before .before in omega (arith, turn at-least2 .some, at-least2 .before .before .before .loop-test .taken, c .greatest .ensures))
     loop-again
     (λ c κs. (begun (c .before) .pre .0, all (c .before) .ready))
     (λ c. let r = result c in ap length (r .written) ∙ length-sets _ 0 (r .cells))

@@ -23,10 +23,10 @@ use Rattle.blocks.proofs.inner.held.holding_of.Tie as tie
 -- a refusal of `check_blocks` is one of the judgement
 returns : tie.Need-returns
 returns c =
-    let p = c .before .before in
+    let at-check-blocks = c .before .before in
     let some = c .before .if1 .taken in
-    let b = p .before .before .args .bytes .now in
-    holds-nothing _ _ _ (c .nothing-held .ensures) some (opening-refuses (checks-blocks b) _ (p .check-blocks .ensures) alone (Faulty (depthOf b) (codes b) 1 ∷ []) (λ a. a ≡ given (length (codes b))) some)
+    let b = at-check-blocks .before .before .args .bytes .now in
+    holds-nothing _ _ _ (c .nothing-held .ensures) some (opening-refuses (checks-blocks b) _ (at-check-blocks .check-blocks .ensures) alone (Faulty (depthOf b) (codes b) 1 ∷ []) (λ a. a ≡ given (length (codes b))) some)
 
 -- ---- sound blocks
 
@@ -46,33 +46,33 @@ module _ (c : tie.After-told) where
   abbrev at-walk : tie.After-judge-stored
   at-walk = c .before
 
-  abbrev e : tie.Else1
-  e = at-walk .before .before
+  abbrev else1 : tie.Else1
+  else1 = at-walk .before .before
 
-  is-depth : at-walk .before .word-at .result ≡ depthOf (b e)
+  is-depth : at-walk .before .word-at .result ≡ depthOf (b else1)
   is-depth = at-walk .before .word-at .ensures
 
-  walked : Walked (depthOf (b e)) (codes (b e)) (length (codes (b e))) (at-walk .judge-stored .result)
-  walked = subst (λ (d : ℕ). Walked d (codes (b e)) (length (codes (b e))) (at-walk .judge-stored .result)) is-depth (at-walk .judge-stored .ensures)
+  walked : Walked (depthOf (b else1)) (codes (b else1)) (length (codes (b else1))) (at-walk .judge-stored .result)
+  walked = subst (λ (d : ℕ). Walked d (codes (b else1)) (length (codes (b else1))) (at-walk .judge-stored .result)) is-depth (at-walk .judge-stored .ensures)
 
   -- the judgement, past the blocks
-  judged : {r : Answer} → Decided alone (Faulty (depthOf (b e)) (codes (b e)) 1 ∷ []) (λ a. a ≡ given (length (codes (b e)))) r → FileJudgedOf (b e) r
-  judged d = opening-passes (checks-blocks (b e)) _ (e .before .check-blocks .ensures) alone (Faulty (depthOf (b e)) (codes (b e)) 1 ∷ []) (λ a. a ≡ given (length (codes (b e)))) _ (none e) d
+  judged : {r : Answer} → Decided alone (Faulty (depthOf (b else1)) (codes (b else1)) 1 ∷ []) (λ a. a ≡ given (length (codes (b else1)))) r → FileJudgedOf (b else1) r
+  judged d = opening-passes (checks-blocks (b else1)) _ (else1 .before .check-blocks .ensures) alone (Faulty (depthOf (b else1)) (codes (b else1)) 1 ∷ []) (λ a. a ≡ given (length (codes (b else1)))) _ (none else1) d
 
-  of-list : FileJudgedOf (b e) (c .told .result)
-  of-list = judged (c .told .ensures (depthOf (b e)) (codes (b e)) walked)
+  of-list : FileJudgedOf (b else1) (c .told .result)
+  of-list = judged (c .told .ensures (depthOf (b else1)) (codes (b else1)) walked)
 
 returns-3 : tie.Need-returns-3
 returns-3 c =
-    let q = c .before in
-    let z : q .told .result .number ≡ 0 = search needs in
-    let good = opening-known (judges-file (b (e q))) _ (of-list q) z .0 .good in
-    let clean = good-passes (depthOf (b (e q))) (codes (b (e q))) 1 good in
-    let number = no-number _ (λ some. clean _ (walked-refuses _ _ _ (walked q) 1 some)) in
+    let at-told = c .before in
+    let z : at-told .told .result .number ≡ 0 = search needs in
+    let good = opening-known (judges-file (b (else1 at-told))) _ (of-list at-told) z .0 .good in
+    let clean = good-passes (depthOf (b (else1 at-told))) (codes (b (else1 at-told))) 1 good in
+    let number = no-number _ (λ some. clean _ (walked-refuses _ _ _ (walked at-told) 1 some)) in
     record {
-      tells = inr (sound-passes _ (checked (e q) .0), inr (clean, checked (e q) .1));
-      is-depth = λ x. is-depth q;
-      is-voxels = λ x. walked-volume _ _ _ (walked q) number;
+      tells = inr (sound-passes _ (checked (else1 at-told) .0), inr (clean, checked (else1 at-told) .1));
+      is-depth = λ x. is-depth at-told;
+      is-voxels = λ x. walked-volume _ _ _ (walked at-told) number;
     }
 
 pub holding-of-spec : {M : Type 1} → statement M

@@ -29,14 +29,14 @@ module _ (c : tie.In-loop Inv-loop μ-loop) where
 
 -- a leaf more is passed
 module _ (c : tie.After-step Inv-loop μ-loop) where
-  abbrev p : tie.In-loop Inv-loop μ-loop
-  p = c .before .before
+  abbrev in-loop : tie.In-loop Inv-loop μ-loop
+  in-loop = c .before .before
 
   abbrev b : List ℕ
-  b = start p .args .bytes .now
+  b = start in-loop .args .bytes .now
 
-  more : Walked (start p .args .depth) (codes b) (p .before .loop .i + 1) (c .step .result)
-  more = c .step .ensures (codes b) (p .before .loop .i) (p .before .loop .inv .2) (codes-at b (p .before .loop .i) (there p) ∙ sym (c .before .code-at .ensures))
+  more : Walked (start in-loop .args .depth) (codes b) (in-loop .before .loop .i + 1) (c .step .result)
+  more = c .step .ensures (codes b) (in-loop .before .loop .i) (in-loop .before .loop .inv .2) (codes-at b (in-loop .before .loop .i) (there in-loop) ∙ sym (c .before .code-at .ensures))
 
 pub judge-stored-spec : {M : Type 1} → statement M
 judge-stored-spec =
@@ -47,13 +47,13 @@ judge-stored-spec =
     (λ c. (search needs, c .begin .ensures .0, c .begin .ensures .1 _ _))
     (λ c κs. code-within (start c .args .bytes .now) (start c .pre .0) (c .before .loop .i) (there c))
     (λ c κs.
-    let s = start (c .before) in
+    let begun = start (c .before) in
     let o = c .before .before .loop in
-    (omega (arith, s .pre .1, shallow-file (s .args .bytes .now) (s .pre .0)), (codes (s .args .bytes .now), o .i, o .inv .2)))
-    (λ c. stays (more (c .before)) (c .if1 .taken) (omega (arith, there (p (c .before)))))
+    record { deep = omega (arith, begun .pre .1, shallow-file (begun .args .bytes .now) (begun .pre .0)); list = codes (begun .args .bytes .now); index = o .i; kept = o .inv .2 })
+    (λ c. stays (more (c .before)) (c .if1 .taken) (omega (arith, there (in-loop (c .before)))))
     (λ c. search needs) (λ c. search needs)
-    (λ c. let z : c .before .step .result .number ≡ 0 = search needs in (omega (arith, p (c .before) .loop-test .taken), z, more (c .before) .kept z))
+    (λ c. let z : c .before .step .result .number ≡ 0 = search needs in (omega (arith, in-loop (c .before) .loop-test .taken), z, more (c .before) .kept z))
     (λ c.
-    let s = c .before .before .before .before in
+    let start = c .before .before .before .before in
     let w = c .before .loop in
-    subst (λ (n : ℕ). Walked (s .args .depth) (codes (s .args .bytes .now)) n (w .walk)) (omega (arith, c .loop-test .left, w .inv .0, s .pre .2)) (going (w .inv .1) (w .inv .2))))
+    subst (λ (n : ℕ). Walked (start .args .depth) (codes (start .args .bytes .now)) n (w .walk)) (omega (arith, c .loop-test .left, w .inv .0, start .pre .2)) (going (w .inv .1) (w .inv .2))))

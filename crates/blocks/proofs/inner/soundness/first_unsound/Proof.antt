@@ -20,31 +20,31 @@ abbrev μ-loop : tie.MeasureT-loop
 -- ---- what `is_sound` told of block i
 
 module _ (c : tie.After-is-sound Inv-loop μ-loop) where
-  abbrev h : tie.At-loop Inv-loop μ-loop
-  h = c .before .before
+  abbrev at-loop : tie.At-loop Inv-loop μ-loop
+  at-loop = c .before .before
 
-  abbrev s : tie.Start Inv-loop μ-loop
-  s = h .before .before .before
+  abbrev start : tie.Start Inv-loop μ-loop
+  start = at-loop .before .before .before
 
-  told : c .is-sound .result ≡ soundAt (s .args .bytes .now) (h .loop .i)
-  told = c .is-sound .ensures ∙ ap₂ (soundBlock (word (s .args .bytes .now) (h .loop .i)) (h .loop .i)) (s .pre .1) (h .loop .inv .1)
+  told : c .is-sound .result ≡ soundAt (start .args .bytes .now) (at-loop .loop .i)
+  told = c .is-sound .ensures ∙ ap₂ (soundBlock (word (start .args .bytes .now) (at-loop .loop .i)) (at-loop .loop .i)) (start .pre .1) (at-loop .loop .inv .1)
 
 pub first-unsound-spec : {M : Type 1} → statement M
 first-unsound-spec =
     tie.close
     (tie.spec
     Inv-loop μ-loop
-    (λ c κs. let s = c .before in omega (arith, whole-blocks _ (s .pre .0), s .pre .1))
+    (λ c κs. let start = c .before in omega (arith, whole-blocks _ (start .pre .0), start .pre .1))
     (λ c. (search needs, c .word-at .ensures, λ j h. absurd (omega arith)))
-    (λ c κs. let s = c .before .before .before .before in omega (arith, whole-blocks _ (s .pre .0), s .pre .1))
+    (λ c κs. let start = c .before .before .before .before in omega (arith, whole-blocks _ (start .pre .0), start .pre .1))
     (λ c.
-    let p = c .before in
-    record { within = omega (arith, s p .pre .1, h p .loop .inv .0); before = h p .loop .inv .2; here = λ _. sym (told p) ∙ not-true _ (c .if1 .taken) })
+    let at-is-sound = c .before in
+    record { within = omega (arith, start at-is-sound .pre .1, at-loop at-is-sound .loop .inv .0); before = at-loop at-is-sound .loop .inv .2; here = λ _. sym (told at-is-sound) ∙ not-true _ (c .if1 .taken) })
     (λ c. search needs) (λ c. search needs)
     (λ c.
-    let p = c .before in
-    (search needs, h p .loop .inv .1, below-more _ _ (h p .loop .inv .2) (sym (told p) ∙ not-false _ (c .if1 .left))))
+    let at-is-sound = c .before in
+    (search needs, at-loop at-is-sound .loop .inv .1, below-more _ _ (at-loop at-is-sound .loop .inv .2) (sym (told at-is-sound) ∙ not-false _ (c .if1 .left))))
     (λ c.
-    let h = c .before in
-    let s = h .before .before .before in
-    record { within = omega (arith, s .pre .1, h .loop .inv .0); before = h .loop .inv .2; here = λ l. absurd (omega (arith, s .pre .1, c .loop-test .left)) }))
+    let at-loop = c .before in
+    let start = at-loop .before .before .before in
+    record { within = omega (arith, start .pre .1, at-loop .loop .inv .0); before = at-loop .loop .inv .2; here = λ l. absurd (omega (arith, start .pre .1, c .loop-test .left)) }))

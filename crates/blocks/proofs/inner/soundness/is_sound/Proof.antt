@@ -16,30 +16,30 @@ use Rattle.blocks.proofs.inner.soundness.is_sound.Tie as tie
 -- ---- the block's words
 
 module _ (c : tie.After-word-at4) where
-  abbrev s : tie.Start
-  s = c .before .before .before .before .before
+  abbrev start : tie.Start
+  start = c .before .before .before .before .before
 
   abbrev v : ℕ → ℕ
-  v = word (s .args .bytes .now) (s .args .i)
+  v = word (start .args .bytes .now) (start .args .i)
 
-  wrong-block : (RightWords v (s .args .i) (s .args .n) (s .args .depth) → ⊥) → false ≡ soundBlock v (s .args .i) (s .args .n) (s .args .depth)
-  wrong-block h = wrong v (s .args .i) (s .args .n) (s .args .depth) h
+  wrong-block : (RightWords v (start .args .i) (start .args .n) (start .args .depth) → ⊥) → false ≡ soundBlock v (start .args .i) (start .args .n) (start .args .depth)
+  wrong-block h = wrong v (start .args .i) (start .args .n) (start .args .depth) h
 
 -- ---- what `right_count` and `unused_zero` told of them
 
 module _ (c : tie.After-right-count) where
-  abbrev w : tie.After-word-at4
-  w = c .before .before .before .before .before
+  abbrev at-word-at4 : tie.After-word-at4
+  at-word-at4 = c .before .before .before .before .before
 
-  is-count : c .right-count .result ≡ rightCount (s w .args .n) (s w .args .i) (v w 3)
-  is-count = c .right-count .ensures ∙ ap (rightCount (s w .args .n) (s w .args .i)) (w .word-at4 .ensures)
+  is-count : c .right-count .result ≡ rightCount (start at-word-at4 .args .n) (start at-word-at4 .args .i) (v at-word-at4 3)
+  is-count = c .right-count .ensures ∙ ap (rightCount (start at-word-at4 .args .n) (start at-word-at4 .args .i)) (at-word-at4 .word-at4 .ensures)
 
 module _ (c : tie.After-unused-zero) where
-  abbrev k : tie.After-right-count
-  k = c .before .before
+  abbrev at-right-count : tie.After-right-count
+  at-right-count = c .before .before
 
-  is-unused : c .unused-zero .result ≡ unusedZero (v (w k))
-  is-unused = c .unused-zero .ensures ∙ ap (λ (n : ℕ). allFrom (λ j. eqb (v (w k) j) 0) (4 + n) (blockCodes - n)) (w k .word-at4 .ensures)
+  is-unused : c .unused-zero .result ≡ unusedZero (v (at-word-at4 at-right-count))
+  is-unused = c .unused-zero .ensures ∙ ap (λ (n : ℕ). allFrom (λ j. eqb (v (at-word-at4 at-right-count) j) 0) (4 + n) (blockCodes - n)) (at-word-at4 at-right-count .word-at4 .ensures)
 
 pub is-sound-spec : {M : Type 1} → statement M
 is-sound-spec =
@@ -50,17 +50,17 @@ is-sound-spec =
     (λ c. wrong-block (c .before .before .before) (λ p. omega arith))
     (λ c. wrong-block (c .before .before .before .before) (λ p. omega arith))
     (λ c κs. search needs)
-    (λ c. let q = c .before in wrong-block (w q) (λ p. clash (p .count) (sym (is-count q) ∙ not-true _ (c .if5 .taken))))
+    (λ c. let at-right-count = c .before in wrong-block (at-word-at4 at-right-count) (λ p. clash (p .count) (sym (is-count at-right-count) ∙ not-true _ (c .if5 .taken))))
     (λ c κs.
-    let q = c .before in
-    let a = s (w q) .args in
-    (omega (arith, s (w q) .pre), omega (arith, right-most (a .n) (a .i) (v (w q) 3) (sym (is-count q) ∙ not-false _ (c .if5 .left)), w q .word-at4 .ensures)))
-    (λ c. let q = c .before in wrong-block (w (k q)) (λ p. clash (p .zeros) (sym (is-unused q) ∙ not-true _ (c .if6 .taken))))
+    let at-right-count = c .before in
+    let a = start (at-word-at4 at-right-count) .args in
+    (omega (arith, start (at-word-at4 at-right-count) .pre), omega (arith, right-most (a .n) (a .i) (v (at-word-at4 at-right-count) 3) (sym (is-count at-right-count) ∙ not-false _ (c .if5 .left)), at-word-at4 at-right-count .word-at4 .ensures)))
+    (λ c. let at-unused-zero = c .before in wrong-block (at-word-at4 (at-right-count at-unused-zero)) (λ p. clash (p .zeros) (sym (is-unused at-unused-zero) ∙ not-true _ (c .if6 .taken))))
     (λ c κs. search needs)
     (λ c.
-    let u = c .before .before in
-    let q = k u in
-    let a = s (w q) .args in
+    let at-unused-zero = c .before .before in
+    let counted = at-right-count at-unused-zero in
+    let a = start (at-word-at4 counted) .args in
     c .right-check .ensures
-    ∙ sound-last (v (w q)) (a .i) (a .n) (a .depth) (omega arith) (omega arith) (omega arith) (omega arith) (sym (is-count q) ∙ not-false _ (u .before .if5 .left))
-    (sym (is-unused u) ∙ not-false _ (c .before .if6 .left))))
+    ∙ sound-last (v (at-word-at4 counted)) (a .i) (a .n) (a .depth) (omega arith) (omega arith) (omega arith) (omega arith) (sym (is-count counted) ∙ not-false _ (at-unused-zero .before .if5 .left))
+    (sym (is-unused at-unused-zero) ∙ not-false _ (c .before .if6 .left))))

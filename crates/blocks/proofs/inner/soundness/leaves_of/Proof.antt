@@ -18,13 +18,13 @@ pub leaves-of-spec : {M : Type 1} → statement M
 leaves-of-spec =
     tie.close
     (tie.spec
-    (λ c. let s = c .before in omega (arith, within s))
-    (λ c. let s = c .before in omega (arith, within s))
-    (λ c. let s = c .before in omega (arith, within s))
-    (λ c κs. let s = c .before in omega (arith, within s))
+    (λ c. let start = c .before in omega (arith, within start))
+    (λ c. let start = c .before in omega (arith, within start))
+    (λ c. let start = c .before in omega (arith, within start))
+    (λ c κs. let start = c .before in omega (arith, within start))
     (λ c. search needs)
-    (λ c. let s = c .before .before in omega (arith, within s))
+    (λ c. let start = c .before .before in omega (arith, within start))
     (λ c.
-    let s = c .before .before in
-    let b = s .args .bytes .now in
-    ap (λ (x : ℕ). blockCodes * (s .args .n - 1) + x) (c .word-at .ensures) ∙ ap (λ (n : ℕ). blockCodes * (n - 1) + word b (n - 1) 3) (s .pre .1) ∙ sym (codes-length b)))
+    let start = c .before .before in
+    let b = start .args .bytes .now in
+    ap (λ (x : ℕ). blockCodes * (start .args .n - 1) + x) (c .word-at .ensures) ∙ ap (λ (n : ℕ). blockCodes * (n - 1) + word b (n - 1) 3) (start .pre .1) ∙ sym (codes-length b)))

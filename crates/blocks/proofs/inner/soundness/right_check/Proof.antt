@@ -20,15 +20,15 @@ module _ (c : tie.After-word-at) where
 
 returns : tie.Need-returns
 returns c =
-    let p = c .before .before in
-    rw (ne-eqb (v p 126) (check (v p) 126 .a) (λ e. c .if1 .taken (p .word-at .ensures ∙ e ∙ sym (is-a p))))
+    let at-word-at = c .before .before in
+    rw (ne-eqb (v at-word-at 126) (check (v at-word-at) 126 .a) (λ e. c .if1 .taken (at-word-at .word-at .ensures ∙ e ∙ sym (is-a at-word-at))))
 
 returns-2 : tie.Need-returns-2
 returns-2 c =
-    let p = c .before .before .before .before in
-    let t : p .word-at .result ≡ p .before .sum-up .result .a = search needs in
-    rw (eq-eqb (v p 126) (check (v p) 126 .a) (sym (p .word-at .ensures) ∙ t ∙ is-a p), c .before .word-at2 .ensures)
-    (ap (λ (s : Sums). eqb (v p 127) (s .b)) (p .before .sum-up .ensures))
+    let at-word-at = c .before .before .before .before in
+    let t : at-word-at .word-at .result ≡ at-word-at .before .sum-up .result .a = search needs in
+    rw (eq-eqb (v at-word-at 126) (check (v at-word-at) 126 .a) (sym (at-word-at .word-at .ensures) ∙ t ∙ is-a at-word-at), c .before .word-at2 .ensures)
+    (ap (λ (s : Sums). eqb (v at-word-at 127) (s .b)) (at-word-at .before .sum-up .ensures))
 
 pub right-check-spec : {M : Type 1} → statement M
 right-check-spec = tie.close (tie.spec (λ c κs. search needs) (λ c κs. search needs) returns (λ c κs. search needs) returns-2)

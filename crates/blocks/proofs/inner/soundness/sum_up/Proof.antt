@@ -21,5 +21,5 @@ sum-up-spec =
     (λ c κs. search needs)
     (λ c. (search needs, c .no-sums .ensures _))
     (λ c κs. search needs) (λ c κs. search needs) (λ c. search needs) (λ c. search needs)
-    (λ c. let h = c .before .before .before in (search needs, c .took .ensures _ (h .loop .w) (h .loop .inv .1) (c .before .word-at .ensures)))
-    (λ c. let h = c .before in h .loop .inv .1 ∙ ap (check _) (omega arith)))
+    (λ c. let at-loop = c .before .before .before in (search needs, c .took .ensures _ (at-loop .loop .w) (at-loop .loop .inv .1) (c .before .word-at .ensures)))
+    (λ c. let at-loop = c .before in at-loop .loop .inv .1 ∙ ap (check _) (omega arith)))

@@ -24,14 +24,14 @@ abbrev μ-loop : tie.MeasureT-loop
 -- ---- the word at w
 
 module _ (c : tie.After-word-at Inv-loop μ-loop) where
-  abbrev h : tie.At-loop Inv-loop μ-loop
-  h = c .before .before
+  abbrev at-loop : tie.At-loop Inv-loop μ-loop
+  at-loop = c .before .before
 
-  abbrev a : tie.Start Inv-loop μ-loop
-  a = h .before .before
+  abbrev start : tie.Start Inv-loop μ-loop
+  start = at-loop .before .before
 
   abbrev zero-at : ℕ → Bool
-  zero-at v = eqb (word (a .args .bytes .now) (a .args .i) v) 0
+  zero-at v = eqb (word (start .args .bytes .now) (start .args .i) v) 0
 
 pub unused-zero-spec : {M : Type 1} → statement M
 unused-zero-spec =
@@ -42,15 +42,15 @@ unused-zero-spec =
     (λ c. (search needs, search needs, λ v a b. absurd (omega arith)))
     (λ c κs. search needs)
     (λ c.
-    let p = c .before in
-    let k = a p .args .k in
-    sym (refuted (allFrom (zero-at p) (4 + k) (blockCodes - k)) (λ t. c .if1 .taken (p .word-at .ensures ∙ eqb-true _ 0 (all-true (zero-at p) (4 + k) (blockCodes - k) t (h p .loop .w) (h p .loop .inv .1) (omega arith))))))
+    let at-word-at = c .before in
+    let k = start at-word-at .args .k in
+    sym (refuted (allFrom (zero-at at-word-at) (4 + k) (blockCodes - k)) (λ t. c .if1 .taken (at-word-at .word-at .ensures ∙ eqb-true _ 0 (all-true (zero-at at-word-at) (4 + k) (blockCodes - k) t (at-loop at-word-at .loop .w) (at-loop at-word-at .loop .inv .1) (omega arith))))))
     (λ c. search needs) (λ c. search needs)
     (λ c.
-    let p = c .before in
-    let z : p .word-at .result ≡ 0 = search needs in
-    (search needs, search needs, below-more _ _ (h p .loop .inv .2) (λ _. eq-eqb _ 0 (sym (p .word-at .ensures) ∙ z))))
+    let at-word-at = c .before in
+    let z : at-word-at .word-at .result ≡ 0 = search needs in
+    (search needs, search needs, below-more _ _ (at-loop at-word-at .loop .inv .2) (λ _. eq-eqb _ 0 (sym (at-word-at .word-at .ensures) ∙ z))))
     (λ c.
-    let h = c .before in
-    let a = h .before .before .args in
-    sym (all-made (λ w. eqb (word (a .bytes .now) (a .i) w) 0) (4 + a .k) (blockCodes - a .k) (λ v lo hi. h .loop .inv .2 v (omega arith) lo))))
+    let at-loop = c .before in
+    let a = at-loop .before .before .args in
+    sym (all-made (λ w. eqb (word (a .bytes .now) (a .i) w) 0) (4 + a .k) (blockCodes - a .k) (λ v lo hi. at-loop .loop .inv .2 v (omega arith) lo))))

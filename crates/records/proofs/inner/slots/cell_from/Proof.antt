@@ -22,8 +22,8 @@ cell-from-spec =
     (λ c κs. let p = c .before .before .before .pre in (p .0 .source .deep, slot-proper (p .0) (p .1) _ (p .1 .0)))
     (λ c. search needs)
     (λ c.
-    let s = c .before .before .before .before in
-    let a = s .args in
-    let low = within (a .depth) (getD (a .l .now) (a .s .lo) 0) (slot-proper (s .pre .0) (s .pre .1) _ (s .pre .1 .0)) in
-    record { fits = omega (arith, c .first .ensures, low, pow8-small (a .depth) (s .pre .0 .source .deep), div-add-mod' (c .first .result) (c .before .before .pow8 .result)) })
+    let start = c .before .before .before .before in
+    let a = start .args in
+    let low = within (a .depth) (getD (a .l .now) (a .s .lo) 0) (slot-proper (start .pre .0) (start .pre .1) _ (start .pre .1 .0)) in
+    record { fits = omega (arith, c .first .ensures, low, pow8-small (a .depth) (start .pre .0 .source .deep), div-add-mod' (c .first .result) (c .before .before .pow8 .result)) })
     returns)

@@ -32,12 +32,12 @@ abbrev μ-loop : tie.MeasureT-loop
 
 loop-holds : tie.Need-loop-holds Inv-loop μ-loop
 loop-holds c = λ b y.
-    let s = c .before .before .before in
-    let k = s .args .k in
+    let start = c .before .before .before in
+    let k = start .args .k in
     let e : c .cell-from .result ≡ b * 8 ^ suc k = c .cell-from .ensures b (rw (add-one k) y) ∙ ap (λ (n : ℕ). b * 8 ^ n) (add-one k) in
     record {
       place = omega (arith, child-edge b 0 k, zero-mul (8 ^ k));
-      cut = cut-none (at-cell (s .pre .0) y) (s .pre .1);
+      cut = cut-none (at-cell (start .pre .0) y) (start .pre .1);
       filled = prefix-none _ _ 8 _ refl;
     }
 
@@ -60,18 +60,18 @@ add-v c =
 
 loop-again : tie.Need-loop-again Inv-loop μ-loop
 loop-again c = λ b y.
-    let s = start (c .before) in
-    let a = s .args in
+    let begun = start (c .before) in
+    let a = begun .args in
     let u = c .before .before .loop in
-    let x = at-cell (s .pre .0) y in
+    let x = at-cell (begun .pre .0) y in
     let inv = u .inv b y in
     let child = c .before .loop-test .taken in
     let next : u .v + c .before .before .before .before .pow8 .result ≡ (8 * b + suc (u .m)) * 8 ^ a .k = omega (arith, inv .place, edge-next b (u .m) (a .k), c .before .before .before .before .pow8 .ensures) in
     let found : Starts (a .depth) (a .l .now) ((8 * b + suc (u .m)) * 8 ^ a .k) (u .i) (a .s .hi) (c .first-from .result) = rw next at (c .first-from .ensures) in
     record {
       place = rw (add-one (u .m)) next;
-      cut = rw (add-one (u .m)) (cut-next x (s .pre .1) (inv .cut) found);
-      filled = prefix-more _ _ 8 (u .r) (u .m) _ child (cut-part x (s .pre .1) (inv .cut) found child) (inv .filled);
+      cut = rw (add-one (u .m)) (cut-next x (begun .pre .1) (inv .cut) found);
+      filled = prefix-more _ _ 8 (u .r) (u .m) _ child (cut-part x (begun .pre .1) (inv .cut) found child) (inv .filled);
     }
 
 pub cut-slot-spec : {M : Type 1} → statement M

@@ -11,26 +11,26 @@ use Rattle.records.proofs.inner.slots.split_slot.Statement.{statement}
 use Rattle.records.proofs.inner.slots.split_slot.Tie as tie
 
 module _ (q : tie.After-tint-slot) where
-  abbrev s : tie.Start
-  s = q .before .before .before
+  abbrev start : tie.Start
+  start = q .before .before .before
 
   -- the tint as the match told it
-  told : {t : Tint} → q .tint-slot .result ≡ t → SlotTint (s .args .depth) (s .args .l .now) (8 ^ suc (s .args .k)) (s .args .s) t
+  told : {t : Tint} → q .tint-slot .result ≡ t → SlotTint (start .args .depth) (start .args .l .now) (8 ^ suc (start .args .k)) (start .args .s) t
   told e =
-      let a = s .args in
+      let a = start .args in
       let wide = q .before .pow8 .ensures ∙ ap (λ (n : ℕ). 8 ^ n) (add-one (a .k)) in
       subst₂ (λ (w : ℕ) (t : Tint). SlotTint (a .depth) (a .l .now) w (a .s) t) wide e (q .tint-slot .ensures)
 
   -- of one colour, it is each child's as it is
-  repeated : (c : Bool) → q .tint-slot .result ≡ tintOf c → (b : ℕ) → Of (s .args .depth) (s .args .l .now) (suc (s .args .k)) b (s .args .s) → (m : ℕ) → m < 8 → Of (s .args .depth) (s .args .l .now) (s .args .k) (8 * b + m) (slotAt (eightOf (s .args .s)) m)
-  repeated c e b x m h = subst (Of _ _ _ _) (sym (each-of-eight (s .args .s) m h)) (slot-whole x m h (s .pre .source) c (told e))
+  repeated : (c : Bool) → q .tint-slot .result ≡ tintOf c → (b : ℕ) → Of (start .args .depth) (start .args .l .now) (suc (start .args .k)) b (start .args .s) → (m : ℕ) → m < 8 → Of (start .args .depth) (start .args .l .now) (start .args .k) (8 * b + m) (slotAt (eightOf (start .args .s)) m)
+  repeated c e b x m h = subst (Of _ _ _ _) (sym (each-of-eight (start .args .s) m h)) (slot-whole x m h (start .pre .source) c (told e))
 
 pub split-slot-spec : {M : Type 1} → statement M
 split-slot-spec =
     tie.close
     (tie.spec
     (λ c. search needs) (λ c κs. search needs) (λ c κs. search needs) (λ c. search needs) (λ c. search needs) (λ c. search needs)
-    (λ c κs. (s (c .before .before) .pre, told (c .before .before) (c .enum-told3 .given .1)))
+    (λ c κs. (start (c .before .before) .pre, told (c .before .before) (c .enum-told3 .given .1)))
     (λ c. repeated (c .before .before) false (c .enum-told .given .1))
     (λ c. repeated (c .before .before) true (c .enum-told2 .given .1))
     (λ c. c .cut-slot .ensures))

@@ -7,9 +7,9 @@ use Rattle.records.proofs.inner.slots.tint_slot.Tie as tie
 
 width-requires : tie.Need-width-requires
 width-requires c κs =
-    let s = c .before .before .before .before in
-    let o = s .pre .0 in
-    (o .deep, proper-at (s .args .depth) (s .args .l .now) (o .ordered) (s .args .s .lo) (omega (arith, c .before .if1 .left, s .pre .1)))
+    let start = c .before .before .before .before in
+    let o = start .pre .0 in
+    (o .deep, proper-at (start .args .depth) (start .args .l .now) (o .ordered) (start .args .s .lo) (omega (arith, c .before .if1 .left, start .pre .1)))
 
 pub tint-slot-spec : {M : Type 1} → statement M
 tint-slot-spec =

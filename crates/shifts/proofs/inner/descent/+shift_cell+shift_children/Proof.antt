@@ -136,28 +136,28 @@ pub +shift-cell+shift-children-spec : {M : Type 1} → statement M
     (λ c. search needs)
     (λ c κs. aimed-copying (c .before .before .before .before .before .pre .1))
     (λ c. search needs)
-    (λ c. let s = c .before .before .before .before .before in let x = s .before .before .before .pre .1 in c .before .before .copy-slot .ensures _ _ (x .slots 0 (omega arith) (uses-none _)) (aimed-copies x (s .if1 .taken)))
+    (λ c. let at-if1 = c .before .before .before .before .before in let x = at-if1 .before .before .before .pre .1 in c .before .before .copy-slot .ensures _ _ (x .slots 0 (omega arith) (uses-none _)) (aimed-copies x (at-if1 .if1 .taken)))
     (λ c κs. search needs)
     (λ c κs. let x = c .before .before .before .before .pre .1 in (omega (arith, x .axes, need-lt (c .before .before .before .before .args .c .k) (c .before .before .before .before .args .w)), (_, aimed-slots x)))
     (λ c. search needs) (λ c. search needs)
     (λ c. let p = piece t (c .before .before) in record { fits = omega (arith, p .root, pow8-small _ (p .deep)) })
     (λ c κs. piece t (c .before .before .before))
     (λ c. search needs) (λ c. parent t (c .before .before))
-    (λ c κs. let q = c .before .before in (omega (arith, aimed t q .axes, need-lt (start t q .args .c .k) (start t q .args .w)), aimed-above (aimed t q) _ (level t q)))
+    (λ c κs. let at-start = c .before .before in (omega (arith, aimed t at-start .axes, need-lt (start t at-start .args .c .k) (start t at-start .args .w)), aimed-above (aimed t at-start) _ (level t at-start)))
     (λ c. parent t (c .before .before .before)) (λ c. parent t (c .before .before .before))
     (λ c κs. search needs)
-    (λ c κs. let axes = c .before in let split = axes .before in let q = split .before .before .before in (omega (arith, start t q .pre .0, parent t q), aimed-divides (aimed t q) _ (level t q) (axes .axes .result) (axes .axes .ensures) (split .split .result) (split .split .ensures)))
+    (λ c κs. let axes = c .before in let split = axes .before in let at-colour = split .before .before .before in (omega (arith, start t at-colour .pre .0, parent t at-colour), aimed-divides (aimed t at-colour) _ (level t at-colour) (axes .axes .result) (axes .axes .ensures) (split .split .result) (split .split .ensures)))
     (λ c.
-    let q = c .before .before in
-    fed-white _ _ _ _ _ _ (omega arith) (aimed t q .root) (aimed-colour (aimed t q) _ (wide t q) (q .colour .ensures) false (c .enum-told .given .1)) (aimed t q .ready))
+    let at-colour = c .before .before in
+    fed-white _ _ _ _ _ _ (omega arith) (aimed t at-colour .root) (aimed-colour (aimed t at-colour) _ (wide t at-colour) (at-colour .colour .ensures) false (c .enum-told .given .1)) (aimed t at-colour .ready))
     (λ c. search needs)
     (λ c.
     let told = c .before .before .before .before in
-    let q = told .before .before in
-    fed-to _ _ (ap (λ (y : ℕ). start t q .args .c .from + y) (wide t q))
-    (c .before .before .push .ensures _ (λ v lo hi. aimed-colour (aimed t q) _ (wide t q) (q .colour .ensures) true (told .enum-told2 .given .1) v lo (omega (arith, wide t q)))))
+    let at-colour = told .before .before in
+    fed-to _ _ (ap (λ (y : ℕ). start t at-colour .args .c .from + y) (wide t at-colour))
+    (c .before .before .push .ensures _ (λ v lo hi. aimed-colour (aimed t at-colour) _ (wide t at-colour) (at-colour .colour .ensures) true (told .enum-told2 .given .1) v lo (omega (arith, wide t at-colour)))))
     (λ c. search needs)
-    (λ c. let q = c .before .before .before .before .before .before .before .before in fed-to _ _ (ap (λ (n : ℕ). start t q .args .c .from + 8 ^ n) (level t q)) (c .before .before .shift-children .ensures)))
+    (λ c. let at-start = c .before .before .before .before .before .before .before .before in fed-to _ _ (ap (λ (n : ℕ). start t at-start .args .c .from + 8 ^ n) (level t at-start)) (c .before .before .shift-children .ensures)))
     (λ t.
     shift-children-lts.spec (children-calls t) (shift-children-at t) shift-children.Post shift-children-Inv-loop shift-children-μ-loop
     (λ c κs. omega (arith, c .before .before .pre .1 .level, c .before .before .pre .1 .source .deep))
@@ -166,16 +166,16 @@ pub +shift-cell+shift-children-spec : {M : Type 1} → statement M
     (λ c κs. (omega arith, omega arith, omega arith)) (λ c. search needs) (λ c κs. (omega arith, omega arith, omega arith)) (λ c. search needs) (λ c. search needs) (λ c. search needs) (λ c. search needs) (λ c. search needs)
     (λ c κs. let sum = c .before .before in let carry = sum .before in aimed-copying (lone t (carry .before .before) (carry .before .if1 .taken) _ _ (carry .carry-label .ensures .0) (sum .sum-label .ensures .0)))
     (λ c κs. (omega arith, omega arith))
-    (λ c κs. let p = c .before .before .before in (omega (arith, entry t p .pre .0), child t p _ (λ q g u. c .before .pick .ensures q g)))
+    (λ c κs. let start = c .before .before .before in (omega (arith, entry t start .pre .0), child t start _ (λ q g u. c .before .pick .ensures q g)))
     (λ c. record { fits = omega (arith, within-root t (c .before), pow8-small (entry t (c .before) .args .depth) (divides t (c .before) .source .deep)) })
     (λ c. search needs) (λ c. search needs)
     (λ c.
-    let p = c .before in
+    let at-test = c .before in
     ⊎-elim
     (λ w.
-    let x = lone t p (w .0 .taken) _ _ (w .1 .ensures .0) (w .2 .ensures .0) in
-    rw (w .8, w .9) (children-more (turn t p .inv) (p .loop-test .taken) (p .before .before .pow8 .ensures) (w .5 .kept .1 .1 .1 .1 .1 .0) (w .5 .ensures _ _ (x .slots 0 (omega arith) (uses-none _)) (aimed-copies x (w .0 .taken)))))
-    (λ w. rw (w .6, w .7) (children-more (turn t p .inv) (p .loop-test .taken) (p .before .before .pow8 .ensures) (w .3 .kept .1 .1 .1 .1 .1 .1 .0) (w .3 .ensures)))
+    let x = lone t at-test (w .0 .taken) _ _ (w .1 .ensures .0) (w .2 .ensures .0) in
+    rw (w .8, w .9) (children-more (turn t at-test .inv) (at-test .loop-test .taken) (at-test .before .before .pow8 .ensures) (w .5 .kept .1 .1 .1 .1 .1 .0) (w .5 .ensures _ _ (x .slots 0 (omega arith) (uses-none _)) (aimed-copies x (w .0 .taken)))))
+    (λ w. rw (w .6, w .7) (children-more (turn t at-test .inv) (at-test .loop-test .taken) (at-test .before .before .pow8 .ensures) (w .3 .kept .1 .1 .1 .1 .1 .1 .0) (w .3 .ensures)))
     (c .if1 .came))
     (λ c. c .before .loop .inv .size)
     (λ c.

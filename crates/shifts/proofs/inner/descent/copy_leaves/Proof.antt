@@ -54,12 +54,12 @@ copy-leaves-spec =
     let push = c .before .before in
     let width = push .before .before in
     let turn = width .before .before .before in
-    let s = begun turn in
-    copied-next (s .pre .0 .held) (s .pre .1) (at (found turn)) (s .pre .0 .root) (turn .before .loop .inv) (turn .loop-test .taken)
+    let start = begun turn in
+    copied-next (start .pre .0 .held) (start .pre .1) (at (found turn)) (start .pre .0 .root) (turn .before .loop .inv) (turn .loop-test .taken)
     (width .before .first .result) (width .width .result) (width .before .first .ensures) (width .width .ensures) (push .push .kept .1 .1 .1 .1 .1 .0) (push .push .ensures))
     (λ c. c .before .loop .inv .size)
     (λ c P b y h.
-    let f = c .before .before in
-    let s = start f in
-    copied-all (s .pre .0 .held) (s .pre .1) (at f) (s .pre .0 .root) (c .before .loop .inv) (c .loop-test .left) P
-    (λ v m n. h v m n ∙ ap (λ (x : ℕ). black (s .args .depth) (s .args .l .now) (x + (v - s .args .c .from))) (sym (f .cell-from .ensures b y)))))
+    let at-cell-from = c .before .before in
+    let begun = start at-cell-from in
+    copied-all (begun .pre .0 .held) (begun .pre .1) (at at-cell-from) (begun .pre .0 .root) (c .before .loop .inv) (c .loop-test .left) P
+    (λ v m n. h v m n ∙ ap (λ (x : ℕ). black (begun .args .depth) (begun .args .l .now) (x + (v - begun .args .c .from))) (sym (at-cell-from .cell-from .ensures b y)))))

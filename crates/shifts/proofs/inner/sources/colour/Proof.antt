@@ -29,13 +29,13 @@ colour-spec =
     tie.close
     (tie.spec
     Inv-loop μ-loop (λ c. search needs)
-    (λ c κs. let s = c .before .before in let x = s .pre .1 .1 0 (omega arith) (uses-none (s .args .f)) in (x .source, x .part .leaves .within))
+    (λ c κs. let start = c .before .before in let x = start .pre .1 .1 0 (omega arith) (uses-none (start .args .f)) in (x .source, x .part .leaves .within))
     (λ c. below-more _ 0 (below-none _) (λ u. c .tint-slot .ensures))
     (λ c. search needs) (λ c. search needs) (λ c. search needs)
     (λ c κs.
-    let s = c .before .before .before .before .before .before in
+    let start = c .before .before .before .before .before .before in
     let q = c .before .loop-test .taken in
-    (s .pre .0, q, λ u. (s .pre .1 .0, s .pre .1 .1 (c .before .before .loop .q) q u)))
+    (start .pre .0, q, λ u. (start .pre .1 .0, start .pre .1 .1 (c .before .before .loop .q) q u)))
     (λ c b e. absurd (mixed-none b e))
     (λ c. search needs) (λ c. search needs)
     (λ c. below-more _ _ (c .before .before .before .before .loop .inv) (c .before .agrees .ensures (not-false _ (c .if1 .left))))

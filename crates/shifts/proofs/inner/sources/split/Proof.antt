@@ -50,8 +50,8 @@ split-spec =
     (λ c. prefix-none _ [] 8 _ refl)
     (λ c. search needs) (λ c κs. search needs) (λ c. search needs) (λ c. search needs)
     (λ c κs.
-    let i = c .before .before .before in
-    i .before .before .before .pre .1 (i .before .loop .q) (i .loop-test .taken) (c .before .before .within .ensures .0 (c .before .if1 .taken)))
+    let at-test = c .before .before .before in
+    at-test .before .before .before .pre .1 (at-test .before .loop .q) (at-test .loop-test .taken) (c .before .before .within .ensures .0 (c .before .if1 .taken)))
     (λ c. search needs) (λ c. search needs) (λ c. search needs) (λ c. search needs)
     filled
     (λ c S x q m h u g. c .before .loop .inv .each q (omega (arith, c .loop-test .left)) u (S q) (x q h u) m g))

@@ -33,24 +33,24 @@ loop-holds c = (search needs, search needs, refl, λ D o. put-none)
 -- ---- inside the loop
 
 module _ (c : tie.In-loop Inv-loop μ-loop) where
-  abbrev s : tie.Start Inv-loop μ-loop
-  s = c .before .before .before .before
+  abbrev start : tie.Start Inv-loop μ-loop
+  start = c .before .before .before .before
 
-  proper-code : (D : ℕ) → Ordered D 0 (s .args .list .now) → proper D (getD (s .args .list .now) (c .before .loop .i) 0) ≡ true
-  proper-code D o = member D 0 _ _ o (member-at (s .args .list .now) (c .before .loop .i) (c .loop-test .taken)) .0
+  proper-code : (D : ℕ) → Ordered D 0 (start .args .list .now) → proper D (getD (start .args .list .now) (c .before .loop .i) 0) ≡ true
+  proper-code D o = member D 0 _ _ o (member-at (start .args .list .now) (c .before .loop .i) (c .loop-test .taken)) .0
 
 loop-again : tie.Need-loop-again Inv-loop μ-loop
 loop-again c =
-    let p = c .before .before in
-    let i = p .before .before .before in
-    let l = s i .args .list .now in
-    let n = i .before .loop .i in (
+    let at-put-path = c .before .before in
+    let in-loop = at-put-path .before .before .before in
+    let l = start in-loop .args .list .now in
+    let n = in-loop .before .loop .i in (
       search needs,
-      omega (arith, p .put-path .ensures .1),
-      p .put-path .kept .1 .0 ∙ i .before .loop .inv .2,
+      omega (arith, at-put-path .put-path .ensures .1),
+      at-put-path .put-path .kept .1 .0 ∙ in-loop .before .loop .inv .2,
       λ D o.
-          put-as (sym (paths-more D l n (i .loop-test .taken)) ∙ ap (λ (m : ℕ). pathLines D (take m l)) (sym (add-one n)))
-          (put-append (i .before .loop .inv .3 D o) (p .put-path .ensures .0 D (proper-code i D o))),
+          put-as (sym (paths-more D l n (in-loop .loop-test .taken)) ∙ ap (λ (m : ℕ). pathLines D (take m l)) (sym (add-one n)))
+          (put-append (in-loop .before .loop .inv .3 D o) (at-put-path .put-path .ensures .0 D (proper-code in-loop D o))),
     )
 
 pub put-paths-spec : {M : Type 1} → statement M
@@ -60,8 +60,8 @@ put-paths-spec =
     Inv-loop μ-loop
     loop-holds
     (λ c. search needs) (λ c. search needs)
-    (λ c κs. let i = c .before .before in omega (arith, i .before .loop .inv .1, i .loop-test .taken, s i .pre))
+    (λ c κs. let at-test = c .before .before in omega (arith, at-test .before .loop .inv .1, at-test .loop-test .taken, start at-test .pre))
     (λ c. search needs) (λ c. search needs)
     loop-again
     (λ c. c .before .loop .inv .2)
-    (λ c. λ D o. let h = c .before in put-as (ap (pathLines D) (take-all (h .loop .i) (h .before .before .before .args .list .now) (c .loop-test .left))) (h .loop .inv .3 D o)))
+    (λ c. λ D o. let at-loop = c .before in put-as (ap (pathLines D) (take-all (at-loop .loop .i) (at-loop .before .before .before .args .list .now) (c .loop-test .left))) (at-loop .loop .inv .3 D o)))

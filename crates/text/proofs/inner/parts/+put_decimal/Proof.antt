@@ -29,26 +29,26 @@ calls t = (put-reads.Asked, put-reads.Learnt, below t, put-decimal.Post)
 returns : (t : ℕ) → lts.Need-returns (calls t) (here t) put-decimal.Post
 returns t c =
     λ f h.
-    let p = c .before .before in
-    let i = p .before .before in
-    put-as (sym (digits-last f (i .before .before .args .n) (i .if1 .taken))) (p .put .ensures)
+    let at-put = c .before .before in
+    let at-if1 = at-put .before .before in
+    put-as (sym (digits-last f (at-if1 .before .before .args .n) (at-if1 .if1 .taken))) (at-put .put .ensures)
 
 -- the number without its last digit has 19 digits at most
 put-requires-2 : (t : ℕ) → lts.Need-put-requires-2 (calls t) (here t) put-decimal.Post
 put-requires-2 t c κs =
-    let d = c .before .before .before in
-    let s = d .before .before .before .before in
-    let n = s .args .n in
-    let p = d .put-decimal .ensures 18 (omega (arith, s .fits .n)) in
-    omega (arith, p .place, digits-length 10 18 (n / 10), s .pre .1)
+    let at-put-decimal = c .before .before .before in
+    let start = at-put-decimal .before .before .before .before in
+    let n = start .args .n in
+    let p = at-put-decimal .put-decimal .ensures 18 (omega (arith, start .fits .n)) in
+    omega (arith, p .place, digits-length 10 18 (n / 10), start .pre .1)
 
 returns-2 : (t : ℕ) → lts.Need-returns-2 (calls t) (here t) put-decimal.Post
 returns-2 t c =
     λ f h.
-    let q = c .before .before in
-    let d = q .before .before .before .before in
-    let e = d .before .before in
-    put-digits (e .before .before .args .n) f (e .if1 .left) h (d .put-decimal .ensures) (q .put2 .ensures)
+    let at-put2 = c .before .before in
+    let at-put-decimal = at-put2 .before .before .before .before in
+    let at-if1 = at-put-decimal .before .before in
+    put-digits (at-if1 .before .before .args .n) f (at-if1 .if1 .left) h (at-put-decimal .put-decimal .ensures) (at-put2 .put2 .ensures)
 
 pub +put-decimal-spec : {M : Type 1} → statement M
 +put-decimal-spec =
@@ -60,7 +60,7 @@ pub +put-decimal-spec : {M : Type 1} → statement M
     put-decimal.Post
     (λ c. omega arith)
     (λ c. omega arith)
-    (λ c κs. let s = c .before .before .before in omega (arith, s .pre .1))
+    (λ c κs. let start = c .before .before .before in omega (arith, start .pre .1))
     (λ c. search needs)
     (returns t)
     (λ c κs. search needs)

@@ -33,18 +33,18 @@ returns t c =
 -- the code without its last label has one label less
 put-requires : (t : ℕ) → lts.Need-put-requires (calls t) (here t) put-labels.Post
 put-requires t c κs =
-    let d = c .before .before .before in
-    let s = d .before .before .before .before in
-    omega (arith, d .put-labels .ensures .1 9 (omega (arith, s .fits .code)), s .pre .1)
+    let at-put-labels = c .before .before .before in
+    let start = at-put-labels .before .before .before .before in
+    omega (arith, at-put-labels .put-labels .ensures .1 9 (omega (arith, start .fits .code)), start .pre .1)
 
 returns-2 : (t : ℕ) → lts.Need-returns-2 (calls t) (here t) put-labels.Post
 returns-2 t c =
-    let q = c .before .before in
-    let d = q .before .before .before .before in
-    let e = d .before .before in
-    let s = e .before .before in (
-      λ k i l. put-label (s .args .code) (e .if1 .left) k i l (d .put-labels .ensures .0) (q .put .ensures),
-      λ f h. omega (arith, q .put .ensures .place, label-near (s .args .code) f (s .args .at) (d .put-labels .result) (e .if1 .left) h (d .put-labels .ensures .1)),
+    let at-put = c .before .before in
+    let at-put-labels = at-put .before .before .before .before in
+    let at-if1 = at-put-labels .before .before in
+    let start = at-if1 .before .before in (
+      λ k i l. put-label (start .args .code) (at-if1 .if1 .left) k i l (at-put-labels .put-labels .ensures .0) (at-put .put .ensures),
+      λ f h. omega (arith, at-put .put .ensures .place, label-near (start .args .code) f (start .args .at) (at-put-labels .put-labels .result) (at-if1 .if1 .left) h (at-put-labels .put-labels .ensures .1)),
     )
 
 pub +put-labels-spec : {M : Type 1} → statement M
@@ -56,7 +56,7 @@ pub +put-labels-spec : {M : Type 1} → statement M
     (here t)
     put-labels.Post
     (returns t)
-    (λ c κs. let s = c .before .before .before in (omega (arith, s .pre .0, c .before .if1 .left), s .pre .1))
+    (λ c κs. let start = c .before .before .before in (omega (arith, start .pre .0, c .before .if1 .left), start .pre .1))
     (λ c. omega arith)
     (λ c. omega arith)
     (put-requires t)

@@ -21,23 +21,23 @@ abbrev μ-loop : tie.MeasureT-loop
 -- ---- the loop's head
 
 module _ (c : tie.At-loop Inv-loop μ-loop) where
-  abbrev s : tie.Start Inv-loop μ-loop
-  s = c .before .before .before
+  abbrev start : tie.Start Inv-loop μ-loop
+  start = c .before .before .before
 
   -- the place after the bytes put
-  is-place : c .loop .place ≡ s .args .at + c .loop .i
-  is-place = omega (arith, c .loop .inv .1 .place, length-take-le (c .loop .i) (s .args .word .now) (c .loop .inv .0))
+  is-place : c .loop .place ≡ start .args .at + c .loop .i
+  is-place = omega (arith, c .loop .inv .1 .place, length-take-le (c .loop .i) (start .args .word .now) (c .loop .inv .0))
 
 loop-again : tie.Need-loop-again Inv-loop μ-loop
 loop-again c =
-    let p = c .before .before in
-    let i = p .before .before .before in
-    let h = i .before in
-    let a = s h .args in
-    let l = h .loop in
-    let e : take (l .i) (a .word .now) ++ (getD (a .word .now) (l .i) 0 ∷ []) ≡ take (l .i + 1) (a .word .now) = sym (take-suc (a .word .now) (l .i) 0 (i .loop-test .taken)) ∙ ap (λ (n : ℕ). take n (a .word .now)) (sym (add-one (l .i))) in (
-      omega (arith, i .loop-test .taken),
-      put-as e (put-append (l .inv .1) (p .put .ensures)),
+    let at-put = c .before .before in
+    let at-test = at-put .before .before .before in
+    let at-loop = at-test .before in
+    let a = start at-loop .args in
+    let l = at-loop .loop in
+    let e : take (l .i) (a .word .now) ++ (getD (a .word .now) (l .i) 0 ∷ []) ≡ take (l .i + 1) (a .word .now) = sym (take-suc (a .word .now) (l .i) 0 (at-test .loop-test .taken)) ∙ ap (λ (n : ℕ). take n (a .word .now)) (sym (add-one (l .i))) in (
+      omega (arith, at-test .loop-test .taken),
+      put-as e (put-append (l .inv .1) (at-put .put .ensures)),
     )
 
 pub put-word-spec : {M : Type 1} → statement M
@@ -47,11 +47,11 @@ put-word-spec =
     Inv-loop μ-loop
     (λ c. (search needs, put-none))
     (λ c. search needs)
-    (λ c κs. let h = c .before .before .before in omega (arith, is-place h, s h .pre, c .before .before .loop-test .taken))
+    (λ c κs. let at-loop = c .before .before .before in omega (arith, is-place at-loop, start at-loop .pre, c .before .before .loop-test .taken))
     (λ c. search needs) (λ c. search needs)
     loop-again
     (λ c. put-length (c .before .loop .inv .1))
     (λ c.
-    let h = c .before in
-    let a = s h .args in
-    put-as (take-all (h .loop .i) (a .word .now) (c .loop-test .left)) (h .loop .inv .1)))
+    let at-loop = c .before in
+    let a = start at-loop .args in
+    put-as (take-all (at-loop .loop .i) (a .word .now) (c .loop-test .left)) (at-loop .loop .inv .1)))
