@@ -40,6 +40,8 @@ extern "C" {
         len: usize,
     );
     fn probe_write(depth: u32, list: *const u32, list_len: usize, bytes: *mut u8, room: usize, answer: *mut u64, len: usize);
+    fn probe_list_text(depth: u32, list: *const u32, list_len: usize, bytes: *mut u8, room: usize, answer: *mut u64, len: usize);
+    fn probe_refused_text(number: u32, place: u64, bytes: *mut u8, room: usize, answer: *mut u64, len: usize);
     fn probe_read(bytes: *const u8, bytes_len: usize, out: *mut u32, room: usize, answer: *mut u64, len: usize);
     fn probe_block_check(bytes: *const u8, bytes_len: usize, answer: *mut u64, len: usize);
     fn probe_stored_volume(bytes: *const u8, bytes_len: usize, answer: *mut u64, len: usize);
@@ -174,6 +176,14 @@ pub fn shift_metres(n: usize, room: usize, depth: u32, list: &[u32], d: [f64; 3]
 
 pub fn write(n: usize, room: usize, depth: u32, list: &[u32]) -> Wrote<u8> {
     wrote(BYTE_GUARD, n, room, |out, p, len| unsafe { probe_write(depth, list.as_ptr(), list.len(), out, room, p, len) })
+}
+
+pub fn list_text(n: usize, room: usize, depth: u32, list: &[u32]) -> Wrote<u8> {
+    wrote(BYTE_GUARD, n, room, |out, p, len| unsafe { probe_list_text(depth, list.as_ptr(), list.len(), out, room, p, len) })
+}
+
+pub fn refused_text(n: usize, room: usize, number: u32, place: u64) -> Wrote<u8> {
+    wrote(BYTE_GUARD, n, room, |out, p, len| unsafe { probe_refused_text(number, place, out, room, p, len) })
 }
 
 pub fn read(n: usize, room: usize, bytes: &[u8]) -> Wrote<u32> {

@@ -27,16 +27,10 @@ fn listing(bytes: &[u8]) -> String {
     }
     let volume = model::stored_volume_of(bytes);
     if volume.number != 0 {
-        return format!("refused {} {}\n", volume.number, volume.place);
+        return model::refused_line(volume.number, volume.place);
     }
-    let blocks = model::sound_blocks(bytes).unwrap();
-    let list: Vec<u32> = blocks.iter().flat_map(|b| b[4..4 + b[3] as usize].to_vec()).collect();
-    let mut text = format!("depth {} leaves {} volume {}\n", blocks[0][2], list.len(), volume.place);
-    for code in list {
-        let path: String = model::labels(blocks[0][2], code).unwrap().iter().map(|l| l.to_string()).collect();
-        text += &format!("r{path}\n");
-    }
-    text
+    let (depth, list) = model::stored_list(&model::sound_blocks(bytes).unwrap());
+    model::listing(depth, &list)
 }
 
 fn about(run: &mut Run, bytes: &[u8]) {

@@ -11,6 +11,7 @@ mod model;
 mod moves;
 mod run;
 mod sets;
+mod text;
 
 use run::Run;
 
@@ -25,6 +26,7 @@ fn main() {
     sets::all(&mut run);
     moves::all(&mut run);
     blocks::all(&mut run);
+    text::all(&mut run);
     listing::all(&mut run);
     println!("{} passed, {} failed", run.passed, run.failed);
     if run.failed > 0 || run.passed == 0 {

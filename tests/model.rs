@@ -256,12 +256,12 @@ pub fn combined(op: Op, a: &Runs, b: &Runs) -> Runs {
     union(ends.windows(2).filter(|w| takes(w[0])).map(|w| (w[0], w[1])).collect())
 }
 
-/// A result that needs so much room: 8 and nothing, or success and the codes.
-pub fn result(room: usize, list: Vec<u32>) -> (Answer, Vec<u32>) {
-    if list.len() > room {
-        (answer(8, list.len() as u64, 0), Vec::new())
+/// A result for a buffer with so much room: 8 and nothing, or success and the codes or bytes.
+pub fn result<T>(room: usize, needed: Vec<T>) -> (Answer, Vec<T>) {
+    if needed.len() > room {
+        (answer(8, needed.len() as u64, 0), Vec::new())
     } else {
-        (answer(0, list.len() as u64, 0), list)
+        (answer(0, needed.len() as u64, 0), needed)
     }
 }
 
@@ -418,7 +418,8 @@ pub fn sound_blocks(bytes: &[u8]) -> Result<Vec<Vec<u32>>, u64> {
     Ok(blocks)
 }
 
-fn stored_list(blocks: &[Vec<u32>]) -> (u32, Vec<u32>) {
+/// The depth and the list that sound blocks hold.
+pub fn stored_list(blocks: &[Vec<u32>]) -> (u32, Vec<u32>) {
     (blocks[0][2], blocks.iter().flat_map(|b| b[4..4 + b[3] as usize].to_vec()).collect())
 }
 
@@ -459,9 +460,33 @@ pub fn write_of(depth: u32, list: &[u32], room: usize) -> (Answer, Vec<u8>) {
     if let Some(refused) = refusal(depth, &[list]) {
         return (refused, Vec::new());
     }
-    let bytes = bytes_of(&file_words(depth, list));
-    if bytes.len() > room {
-        return (answer(8, bytes.len() as u64, 0), Vec::new());
+    result(room, bytes_of(&file_words(depth, list)))
+}
+
+// ---- the text of a listing
+
+/// The listing of a good list: the first line, then a path a line.
+pub fn listing(depth: u32, list: &[u32]) -> String {
+    let mut text = format!("depth {} leaves {} volume {}\n", depth, list.len(), volume(&black(depth, list)));
+    for code in list {
+        let path: String = labels(depth, *code).unwrap().iter().map(|l| l.to_string()).collect();
+        text += &format!("r{path}\n");
     }
-    (answer(0, bytes.len() as u64, 0), bytes)
+    text
+}
+
+/// The line of a refusal.
+pub fn refused_line(number: u64, place: u64) -> String {
+    format!("refused {number} {place}\n")
+}
+
+pub fn list_text_of(depth: u32, list: &[u32], room: usize) -> (Answer, Vec<u8>) {
+    if let Some(refused) = refusal(depth, &[list]) {
+        return (refused, Vec::new());
+    }
+    result(room, listing(depth, list).into_bytes())
+}
+
+pub fn refused_text_of(number: u32, place: u64, room: usize) -> (Answer, Vec<u8>) {
+    result(room, refused_line(number as u64, place).into_bytes())
 }

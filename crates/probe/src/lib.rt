@@ -5,3 +5,4 @@ pub mod on_cells;
 pub mod on_moves;
 pub mod on_records;
 pub mod on_sets;
+pub mod on_text;
