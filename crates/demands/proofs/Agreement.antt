@@ -1,23 +1,23 @@
 -- Tests that two answers with the lists written agree, that a list is good, and how the room of a buffer decides. Assumes nothing.
 use mathlib.Core.Path.{_≡_, refl, ap, ap₂, _∙_, subst}
 use mathlib.Core.Bool.{Bool, true, false, _&&_}
+use mathlib.Core.Logic.{inr}
 use mathlib.Core.List.{List, [], _∷_}
 use Prim.Native.Nat.{ℕ, _≤_, _<_, zero-le}
 use native.Mathlib.Omega.{arith}
 use lib.Dec.{leb, eqb}
 use lib.ListN.{length}
 use borrow.Author.Tests.{leb-true, leb-false, eqb-true}
-use Rattle.cells.specs.Answer.{answer, given, deepest}
+use Rattle.cells.specs.Answer.{answer, given, Decided, keeping, deepest, TooDeep}
 use Rattle.cells.specs.declared.Answer.{Answer}
 use Rattle.cells.proofs.Bools.{both-true, clash}
 use Rattle.records.specs.Record.{Good, ListOf}
-use Rattle.records.specs.Fault.{allFrom, fault}
-use Rattle.records.specs.Writing.{stands}
+use Rattle.records.specs.Fault.{allFrom, fault, Faulty}
+use Rattle.records.specs.Writing.{stands, WritesOf, WritesListOf}
 use Rattle.records.proofs.Fill.{all-true}
-use Rattle.records.proofs.First.{faultless-iff-good}
-use Rattle.records.specs.Writing.{WritesListOf}
+use Rattle.records.proofs.First.{faultless-iff-good, good-passes}
 use Rattle.records.proofs.Writing.{too-short, writes-fitting}
-use Rattle.demands.proofs.Outcomes.{Left}
+use Rattle.demands.proofs.Outcomes.{Left, not-deep}
 
 -- ---- equal lists and equal answers, as tests
 
@@ -87,3 +87,8 @@ told-roomed D Q o l x r w e = subst (λ (t : Left). WritesListOf D Q o (leaving 
     told : (t : Bool) → leb (length l) (length o) ≡ t → WritesListOf D Q o (leaving o (inRoom t l))
     told true h = (l, x, writes-fitting l o (leb-true _ _ h))
     told false h = (l, x, too-short l o _ refl _ _ (leb-false _ _ h) refl refl)
+
+-- the file or the text t of a good list, and a buffer that is too short for it
+pub list-crowded : (D : ℕ) (l t o : List ℕ) (n : ℕ) → n ≡ length t → D ≤ deepest → Good D l → length o < n
+    → Decided (keeping o) (TooDeep deepest D ∷ Faulty D l 1 ∷ []) (WritesOf t o) (answer 8 n 0, o)
+list-crowded D l t o n counted h g short = inr (not-deep D h, inr (good-passes D l 1 g, too-short t o n counted _ _ short refl refl))

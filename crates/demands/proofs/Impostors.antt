@@ -32,22 +32,15 @@ use Rattle.moves.proofs.MoveLaws.{one-move}
 use Rattle.demands.specs.Laws.{move, Succeeds, wrote, TwoMoves, Distributes, KeepsVolume, VolumesAddUp}
 use Rattle.demands.specs.Examples.{r057, r0, east, north}
 use Rattle.demands.specs.Impostors.{firstList, secondList, alongX}
-use Rattle.demands.proofs.Outcomes.{Left, numberOf, combine-succeeds}
+use Rattle.demands.proofs.Outcomes.{Left, numberOf, placeOf, frontOf, combine-succeeds}
 use Rattle.demands.proofs.Moves.{two-moves}
 use Rattle.demands.proofs.Distributes.{distributes}
 use Rattle.demands.proofs.Volumes.{keeps-volume, add-up}
 use Rattle.demands.proofs.Named.{a, b, made, twice, room, seven, right-made, right-twice, right-crowded, right-far, right-near, right-still, right-seven, right-check, right-check-none, right-volume, right-volume-none}
 
-abbrev placeOf : Left → ℕ
-placeOf t = t .0 .place
-
 -- the list of r0 and r2
 abbrev r0-r2 : List ℕ
 r0-r2 = 8 ∷ 10 ∷ []
-
--- the first code in the buffer
-abbrev front : Left → ℕ
-front t = getD (t .1) 0 0
 
 -- ---- one that rejects everything
 
@@ -94,7 +87,7 @@ fixed-set op r o h k = differ op (ap placeOf (sym (one-set op 1 a b room (r, o) 
 
 pub fixed-move : (r : Answer) (o : List ℕ) → MoveOf 3 r057 (north (pos 5)) room r o → MoveOf 3 r057 (north (pos 1)) room r o → ⊥
 fixed-move r o h k =
-    let e : _≡_ {A = ℕ} 701 573 = ap front (sym (one-move 3 r057 (north (pos 5)) room (r, o) _ h right-far) ∙ one-move 3 r057 (north (pos 1)) room (r, o) _ k right-near) in
+    let e : _≡_ {A = ℕ} 701 573 = ap frontOf (sym (one-move 3 r057 (north (pos 5)) room (r, o) _ h right-far) ∙ one-move 3 r057 (north (pos 1)) room (r, o) _ k right-near) in
     omega arith
 
 pub fixed-volume : (r : Answer) → VolumeOf 3 r057 r → VolumeOf 3 [] r → ⊥
@@ -106,7 +99,7 @@ fixed-check r h k = let e : _≡_ {A = ℕ} 1 0 = ap (λ (s : Answer). s .place)
 -- ---- one that writes nothing, whatever it reports
 
 pub silent-set : (op : Op) (r : Answer) → SetOf op 1 a b room r room → ⊥
-silent-set op r h = differ op (ap front (one-set op 1 a b room (r, room) _ h (right-made op)))
+silent-set op r h = differ op (ap frontOf (one-set op 1 a b room (r, room) _ h (right-made op)))
   where
     differ : (op : Op) → 5 ≡ getD (stands (made op) room) 0 0 → ⊥
     differ Join e = omega arith
@@ -114,7 +107,7 @@ silent-set op r h = differ op (ap front (one-set op 1 a b room (r, room) _ h (ri
     differ Subtract e = omega arith
 
 pub silent-move : (r : Answer) → MoveOf 3 r057 (north (pos 5)) room r room → ⊥
-silent-move r h = let e : _≡_ {A = ℕ} 5 701 = ap front (one-move 3 r057 (north (pos 5)) room (r, room) _ h right-far) in omega arith
+silent-move r h = let e : _≡_ {A = ℕ} 5 701 = ap frontOf (one-move 3 r057 (north (pos 5)) room (r, room) _ h right-far) in omega arith
 
 -- ---- an invented volume, leaf count or needed room
 
@@ -145,7 +138,7 @@ along-x = (
   λ op D l m d. distributes op D l m (axes (d 0) (pos 0) (pos 0)),
   λ D l d. keeps-volume D l (axes (d 0) (pos 0) (pos 0)),
   λ r o h k.
-      let e : _≡_ {A = ℕ} 559 701 = ap front (sym (one-move 3 r057 (north (pos 0)) room (r, o) _ h right-still) ∙ one-move 3 r057 (north (pos 5)) room (r, o) _ k right-far) in
+      let e : _≡_ {A = ℕ} 559 701 = ap frontOf (sym (one-move 3 r057 (north (pos 0)) room (r, o) _ h right-still) ∙ one-move 3 r057 (north (pos 5)) room (r, o) _ k right-far) in
       omega arith,
 )
 

@@ -1,48 +1,87 @@
 -- Demand 1: "A rejected call changes no byte it was lent." And document 01: "Buffers beyond what is written keep their content." Of each call that is lent a
--- buffer. Assumes nothing.
-use mathlib.Core.Path.{_≡_, refl}
+-- buffer to write. Assumes nothing.
+use mathlib.Core.Path.{_≡_, refl, subst⁻¹}
 use mathlib.Core.List.{List, [], _∷_}
 use Prim.Native.Nat.{ℕ}
 use lib.IntN.{ℤ}
 use lib.ListN.{length, drop}
 use lib.Seq.{drop-append-seam}
-use Rattle.cells.specs.Answer.{given, keeping, deepest, TooDeep}
+use Rattle.cells.specs.Answer.{given, Test, Decided, keeping, deepest, TooDeep}
 use Rattle.cells.specs.declared.Answer.{Answer}
 use Rattle.cells.proofs.Decisions.{decided-all}
 use Rattle.cells.specs.Place.{axes, Came}
 use Rattle.records.specs.Fault.{Faulty}
 use Rattle.records.specs.Carried.{FromBlack, Straying}
-use Rattle.records.specs.Writing.{stands, TooShort, WritesListOf}
+use Rattle.records.specs.Writing.{stands, TooShort, WritesOf, WritesListOf}
 use Rattle.sets.specs.declared.Op.{Op}
 use Rattle.sets.specs.Sets.{InResult, SetOf}
 use Rattle.metres.specs.Metres.{moveTests}
 use Rattle.metres.specs.declared.Move.{Move}
 use Rattle.moves.specs.Moves.{ShiftOf, MoveOf}
-use Rattle.demands.specs.Laws.{Succeeds}
+use Rattle.blocks.specs.Block.{depthOf, codes}
+use Rattle.blocks.specs.File.{fileOf}
+use Rattle.blocks.specs.Calls.{Unsound, unread, ReadOf, WriteOf}
+use Rattle.blocks.specs.declared.Reading.{Reading}
+use Rattle.text.specs.Text.{textOf, TextOf, refusedText, RefusedOf}
+use Rattle.demands.specs.Laws.{Kept, Keeps}
 use Rattle.demands.proofs.Outcomes.{Left}
 
--- what a call leaves of the buffer o: all of it where it is refused, and what lies beyond its place where it succeeds
-pub record Kept (o : List ℕ) (t : Left) : Type 0 where
-  pub refused : (Succeeds (t .0) → ⊥) → t .1 ≡ o
-  pub beyond : Succeeds (t .0) → drop (t .0 .place) (t .1) ≡ drop (t .0 .place) o
+-- ---- a refusal, and what is written to the front
 
-kept-refused : (o : List ℕ) (a : Answer) → Kept o (keeping o a)
+abbrev KeptOf : List ℕ → Left → Type 0
+KeptOf o t = Kept o (t .0) (t .1)
+
+kept-refused : (o : List ℕ) (a : Answer) → Kept o a o
 kept-refused o a = record { refused = λ _. refl; beyond = λ _. refl }
 
-kept-written : (D : ℕ) (Q : ℕ → Type 0) (o : List ℕ) (t : Left) → WritesListOf D Q o t → Kept o t
-kept-written D Q o t (l, x, w) = decided-all (keeping o) (TooShort (length l) o ∷ []) (λ s. s ≡ (given (length l), stands l o)) (Kept o) t (kept-refused o) fits w
-  where
-    fits : t ≡ (given (length l), stands l o) → Kept o t
-    fits e = rw e (record { refused = λ n. absurd (n refl); beyond = λ _. drop-append-seam l (drop (length l) o) })
+kept-stands : (l o : List ℕ) → Kept o (given (length l)) (stands l o)
+kept-stands l o = record { refused = λ n. absurd (n refl); beyond = λ _. drop-append-seam l (drop (length l) o) }
 
-pub set-keeps : (op : Op) (D : ℕ) (a b o o' : List ℕ) (r : Answer) → SetOf op D a b o r o' → Kept o (r, o')
-set-keeps op D a b o o' r d =
-    decided-all (keeping o) (TooDeep deepest D ∷ Faulty D a 1 ∷ Faulty D b 2 ∷ []) (WritesListOf D (InResult op D a b) o) (Kept o) (r, o') (kept-refused o) (kept-written D (InResult op D a b) o (r, o')) d
+-- ---- rows of tests before what is written
 
-shift-keeps : (D : ℕ) (l : List ℕ) (d : ℕ → ℤ) (o : List ℕ) (t : Left) → ShiftOf D l d o t → Kept o t
-shift-keeps D l d o t s =
-    decided-all (keeping o) (Straying D (Came D d) l ∷ []) (WritesListOf D (FromBlack D (Came D d) l) o) (Kept o) t (kept-refused o) (kept-written D (FromBlack D (Came D d) l) o t) s
+module _ (o : List ℕ) (t : Left) where
+  decided-keeps : (Fs : List Test) (P : Left → Type 0) → (P t → KeptOf o t) → Decided (keeping o) Fs P t → KeptOf o t
+  decided-keeps Fs P = decided-all (keeping o) Fs P (KeptOf o) t (kept-refused o)
 
-pub move-keeps : (D : ℕ) (l : List ℕ) (m : Move) (o o' : List ℕ) (r : Answer) → MoveOf D l m o r o' → Kept o (r, o')
+  writes-keeps : (l : List ℕ) → WritesOf l o t → KeptOf o t
+  writes-keeps l = decided-keeps (TooShort (length l) o ∷ []) (λ s. s ≡ (given (length l), stands l o)) (λ e. rw e (kept-stands l o))
+
+  found-keeps : (Fs : List Test) (D : ℕ) (Q : ℕ → Type 0) → Decided (keeping o) Fs (WritesListOf D Q o) t → KeptOf o t
+  found-keeps Fs D Q = decided-keeps Fs (WritesListOf D Q o) (λ (l, _, w). writes-keeps l w)
+
+  -- w is written where the list l passes its tests
+  list-keeps : (D : ℕ) (l w : List ℕ) → Decided (keeping o) (TooDeep deepest D ∷ Faulty D l 1 ∷ []) (WritesOf w o) t → KeptOf o t
+  list-keeps D l w = decided-keeps (TooDeep deepest D ∷ Faulty D l 1 ∷ []) (WritesOf w o) (writes-keeps w)
+
+  shift-keeps : (D : ℕ) (l : List ℕ) (d : ℕ → ℤ) → ShiftOf D l d o t → KeptOf o t
+  shift-keeps D l d = found-keeps (Straying D (Came D d) l ∷ []) D (FromBlack D (Came D d) l)
+
+-- ---- the calls
+
+pub set-keeps : (op : Op) (D : ℕ) (a b : List ℕ) → Keeps (SetOf op D a b)
+set-keeps op D a b o o' r d = found-keeps o (r, o') (TooDeep deepest D ∷ Faulty D a 1 ∷ Faulty D b 2 ∷ []) D (InResult op D a b) d
+
+pub move-keeps : (D : ℕ) (l : List ℕ) (m : Move) → Keeps (MoveOf D l m)
 move-keeps D l m o o' r d =
-    decided-all (keeping o) (TooDeep deepest D ∷ Faulty D l 1 ∷ moveTests m) _ (Kept o) (r, o') (kept-refused o) (λ (dx, dy, dz, _, t). shift-keeps D l (axes dx dy dz) o (r, o') t) d
+    decided-keeps o (r, o') (TooDeep deepest D ∷ Faulty D l 1 ∷ moveTests m) _ (λ (dx, dy, dz, _, s). shift-keeps o (r, o') D l (axes dx dy dz) s) d
+
+pub write-keeps : (D : ℕ) (l : List ℕ) → Keeps (WriteOf D l)
+write-keeps D l o o' r d = list-keeps o (r, o') D l (fileOf D l) d
+
+-- whatever depth D comes beside the answer
+pub read-keeps : (b : List ℕ) (D : ℕ) → Keeps (λ o r o'. ReadOf b o (record { answer = r; depth = D }) o')
+read-keeps b D o o' r d =
+    decided-all (unread o) (Unsound b ∷ Faulty (depthOf b) (codes b) 1 ∷ TooShort (length (codes b)) o ∷ []) (λ t. t ≡ success) OfReading _ (kept-refused o)
+    (λ e. subst⁻¹ OfReading {y = success} e (kept-stands (codes b) o)) d
+  where
+    OfReading : Reading × List ℕ → Type 0
+    OfReading t = Kept o (t .0 .answer) (t .1)
+
+    success : Reading × List ℕ
+    success = (record { answer = given (length (codes b)); depth = depthOf b }, stands (codes b) o)
+
+pub text-keeps : (D : ℕ) (l : List ℕ) → Keeps (TextOf D l)
+text-keeps D l o o' r d = list-keeps o (r, o') D l (textOf D l) d
+
+pub refused-keeps : (n p : ℕ) → Keeps (RefusedOf n p)
+refused-keeps n p o o' r d = writes-keeps o (r, o') (refusedText n p) d

@@ -17,3 +17,4 @@ pub mod Starred
 pub mod Named
 pub mod Impostors
 pub mod StoredImpostors
+pub mod TextImpostors

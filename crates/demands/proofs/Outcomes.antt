@@ -6,7 +6,7 @@ use mathlib.Core.List.{List}
 use Prim.Native.Nat.{ℕ, _^_, _<_, _≤_}
 use native.Mathlib.Omega.{arith}
 use lib.IntN.{ℤ}
-use lib.ListN.{length, drop}
+use lib.ListN.{length, getD, drop}
 use lib.Seq.{take-append-seam}
 use Rattle.cells.specs.Answer.{answer, given, deepest, TooDeep}
 use Rattle.cells.specs.Place.{axes, Came}
@@ -29,6 +29,13 @@ Left = Answer × List ℕ
 
 abbrev pub numberOf : Left → ℕ
 numberOf t = t .0 .number
+
+abbrev pub placeOf : Left → ℕ
+placeOf t = t .0 .place
+
+-- the first code or byte in the buffer
+abbrev pub frontOf : Left → ℕ
+frontOf t = getD (t .1) 0 0
 
 -- ---- the test of the depth
 

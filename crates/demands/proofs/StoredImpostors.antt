@@ -1,6 +1,7 @@
 -- The impostors of document 01, "How tight the statements are", for the calls on stored files: what each would leave at a named input does not fit the call's
 -- definition. Each follows from one right answer and the law that no second answer fits. Assumes nothing.
-use mathlib.Core.Path.{_≡_, refl, ap, _∙_}
+use mathlib.Core.Path.{_≡_, refl, sym, ap, _∙_}
+use mathlib.Core.Logic.{inl, inr}
 use mathlib.Core.List.{List, [], _∷_, _++_}
 use Prim.Native.Nat.{ℕ, _<_}
 use native.Mathlib.Omega.{arith}
@@ -10,16 +11,19 @@ use Rattle.cells.specs.declared.Answer.{Answer}
 use Rattle.cells.proofs.Decisions.{opening-known}
 use Rattle.records.specs.Record.{Good}
 use Rattle.records.proofs.CallLaws.{checks}
+use Rattle.records.proofs.First.{good-passes}
 use Rattle.blocks.specs.File.{blocksOf, plain, words, byteOf, fileOf}
 use Rattle.blocks.specs.Calls.{BlockCheckOf, StoredVolumeOf, ReadOf, WriteOf}
 use Rattle.blocks.specs.declared.Reading.{Reading}
 use Rattle.blocks.proofs.Files.{file-length, file-byte}
+use Rattle.blocks.proofs.Sound.{sound-passes}
 use Rattle.blocks.proofs.CallLaws.{one-check-blocks, one-stored-volume, one-read, one-write}
 use Rattle.blocks.proofs.Theorems.{writes-good, reads-file}
-use Rattle.blocks.proofs.Instances.{block-check-holds, stored-volume-holds, read-holds, write-holds}
+use Rattle.blocks.proofs.Instances.{good, one-sound, one-depth, one-codes, block-check-holds, stored-volume-holds, read-holds, write-holds}
 use Rattle.demands.specs.Examples.{r057}
 use Rattle.demands.specs.Laws.{Succeeds}
-use Rattle.demands.proofs.Outcomes.{Left}
+use Rattle.demands.proofs.Outcomes.{Left, numberOf, placeOf}
+use Rattle.demands.proofs.Agreement.{list-crowded}
 use Rattle.demands.proofs.Named.{right-check-none}
 
 -- what a reader leaves: its reading, and the buffer afterwards
@@ -38,7 +42,7 @@ good-none = opening-known (checks 3 []) (given 0) right-check-none refl .good
 -- ---- one that rejects everything
 
 pub rejects-write : (r : Answer) (o : List ℕ) → (Succeeds r → ⊥) → WriteOf 3 r057 bytes r o → ⊥
-rejects-write r o refused h = refused (ap (λ (t : Left). t .0 .number) (one-write 3 r057 bytes (r, o) (given 512, fileOf 3 r057 ++ (7 ∷ [])) h write-holds))
+rejects-write r o refused h = refused (ap numberOf (one-write 3 r057 bytes (r, o) (given 512, fileOf 3 r057 ++ (7 ∷ [])) h write-holds))
 
 pub rejects-read : (r : Reading) (o : List ℕ) → (Succeeds (r .answer) → ⊥) → ReadOf (fileOf 3 r057) two-places r o → ⊥
 rejects-read r o refused h = refused (ap (λ (t : Read). t .0 .answer .number) (one-read (fileOf 3 r057) two-places (r, o) _ h read-holds))
@@ -86,7 +90,7 @@ silent-write r h =
 pub silent-read : (r : Reading) → ReadOf (fileOf 3 r057) two-places r two-places → ⊥
 silent-read r h = let e : _≡_ {A = ℕ} 7 559 = ap (λ (t : Read). getD (t .1) 0 0) (one-read (fileOf 3 r057) two-places (r, two-places) _ h read-holds) in omega arith
 
--- ---- an invented volume, leaf count or byte count
+-- ---- an invented volume, leaf count, byte count or needed room
 
 pub invented-stored-volume : (n : ℕ) → (n ≡ 1 → ⊥) → StoredVolumeOf (fileOf 3 r057) (given n) → ⊥
 invented-stored-volume n other h = other (ap (λ (a : Answer). a .place) (one-stored-volume (fileOf 3 r057) (given n) _ h stored-volume-holds))
@@ -94,5 +98,20 @@ invented-stored-volume n other h = other (ap (λ (a : Answer). a .place) (one-st
 pub invented-stored-count : (n : ℕ) → (n ≡ 1 → ⊥) → BlockCheckOf (fileOf 3 r057) (given n) → ⊥
 invented-stored-count n other h = other (ap (λ (a : Answer). a .place) (one-check-blocks (fileOf 3 r057) (given n) _ h block-check-holds))
 
-pub invented-bytes : (n : ℕ) (o : List ℕ) → (n ≡ 512 → ⊥) → WriteOf 3 r057 bytes (given n) o → ⊥
-invented-bytes n o other h = other (ap (λ (t : Left). t .0 .place) (one-write 3 r057 bytes (given n, o) (given 512, fileOf 3 r057 ++ (7 ∷ [])) h write-holds))
+pub invented-count-read : (n D : ℕ) (o : List ℕ) → (n ≡ 1 → ⊥) → ReadOf (fileOf 3 r057) two-places (record { answer = given n; depth = D }) o → ⊥
+invented-count-read n D o other h = other (ap (λ (t : Read). t .0 .answer .place) (one-read (fileOf 3 r057) two-places (_, o) _ h read-holds))
+
+pub invented-bytes-write : (n : ℕ) (o : List ℕ) → (n ≡ 512 → ⊥) → WriteOf 3 r057 bytes (given n) o → ⊥
+invented-bytes-write n o other h = other (ap placeOf (one-write 3 r057 bytes (given n, o) (given 512, fileOf 3 r057 ++ (7 ∷ [])) h write-holds))
+
+pub invented-room-write : (n : ℕ) (o : List ℕ) → (n ≡ 512 → ⊥) → WriteOf 3 r057 [] (answer 8 n 0) o → ⊥
+invented-room-write n o other h =
+    let crowded : WriteOf 3 r057 [] (answer 8 512 0) [] = list-crowded 3 r057 (fileOf 3 r057) [] 512 (sym (file-length 3 r057)) (omega arith) good (omega arith) in
+    other (ap placeOf (one-write 3 r057 [] (answer 8 n 0, o) (answer 8 512 0, []) h crowded))
+
+pub invented-room-read : (n D : ℕ) (o : List ℕ) → (n ≡ 1 → ⊥) → ReadOf (fileOf 3 r057) [] (record { answer = answer 8 n 0; depth = D }) o → ⊥
+invented-room-read n D o other h = other (ap (λ (t : Read). t .0 .answer .place) (one-read (fileOf 3 r057) [] (_, o) _ h crowded))
+  where
+    crowded : ReadOf (fileOf 3 r057) [] (record { answer = answer 8 1 0; depth = 0 }) []
+    crowded =
+        inr (sound-passes (fileOf 3 r057) one-sound, rw (one-depth, one-codes) (inr (good-passes 3 r057 1 good, inl (_, (omega arith, refl), refl))))

@@ -1,12 +1,13 @@
--- Demand 3 of the order, sentence by sentence, as laws of any calls that carry a list or make one list of two. The theorems of proofs/ say that the library's
--- calls keep them. The order's conditions are the hypotheses: moves in whole voxels, calls that succeed where their list is taken further, buffers with room.
+-- The end of demand 1 of the order, and demand 3 sentence by sentence, as laws of any calls: that are lent a buffer, carry a list or make one list of two. The
+-- theorems of proofs/ say that the library's calls keep them. The order's conditions are the hypotheses of demand 3: moves in whole voxels, calls that succeed
+-- where their list is taken further, buffers with room.
 -- A displacement is any whole number here; the call takes those that can be written, and so a sum that can be written. Definitions only.
 use mathlib.Core.Path.{_≡_}
 use mathlib.Core.Logic.{_↔_}
 use mathlib.Core.List.{List}
 use Prim.Native.Nat.{ℕ, _+_}
 use lib.IntN.{ℤ, _+ℤ_}
-use lib.ListN.{take}
+use lib.ListN.{take, drop}
 use Rattle.cells.specs.declared.Answer.{Answer}
 use Rattle.records.specs.Calls.{VolumeOf}
 use Rattle.metres.specs.declared.Move.the-variants.{Voxels}
@@ -49,7 +50,18 @@ pub record Alike (r : Answer) (o : List ℕ) (s : Answer) (p : List ℕ) : Type 
   pub same-answer : r ≡ s
   pub same-list : wrote r o ≡ wrote s p
 
--- ---- the laws
+-- ---- the law of demand 1
+
+-- what a call leaves of the buffer o, which is o' afterwards: all of it where it is refused, and what lies beyond its place where it succeeds
+pub record Kept (o : List ℕ) (r : Answer) (o' : List ℕ) : Type 0 where
+  pub refused : (Succeeds r → ⊥) → o' ≡ o
+  pub beyond : Succeeds r → drop (r .place) o' ≡ drop (r .place) o
+
+-- "A rejected call changes no byte it was lent." And document 01: "Buffers beyond what is written keep their content."
+abbrev pub Keeps : (List ℕ → Answer → List ℕ → Type 0) → Type 0
+Keeps C = (o o' : List ℕ) (r : Answer) → C o r o' → Kept o r o'
+
+-- ---- the laws of demand 3
 
 -- "If a first move is accepted, a second is accepted exactly when the single move by their sum is, and ends in the same list."
 abbrev pub TwoMoves : Carrier (ℕ → ℤ) → Type 0

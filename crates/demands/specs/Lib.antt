@@ -1,4 +1,4 @@
--- what demand 3 asks
+-- what demands 1 and 3 ask
 pub mod Laws
 -- calls that are none of the library's
 pub mod Impostors
