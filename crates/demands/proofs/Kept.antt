@@ -46,27 +46,28 @@ module _ (o : List ℕ) (t : Left) where
   writes-keeps : (l : List ℕ) → WritesOf l o t → KeptOf o t
   writes-keeps l = decided-keeps (TooShort (length l) o ∷ []) (λ s. s ≡ (given (length l), stands l o)) (λ e. rw e (kept-stands l o))
 
-  found-keeps : (Fs : List Test) (D : ℕ) (Q : ℕ → Type 0) → Decided (keeping o) Fs (WritesListOf D Q o) t → KeptOf o t
-  found-keeps Fs D Q = decided-keeps Fs (WritesListOf D Q o) (λ (l, _, w). writes-keeps l w)
+  -- the good list of the voxels that have Q is written
+  good-list-keeps : (Fs : List Test) (D : ℕ) (Q : ℕ → Type 0) → Decided (keeping o) Fs (WritesListOf D Q o) t → KeptOf o t
+  good-list-keeps Fs D Q = decided-keeps Fs (WritesListOf D Q o) (λ (l, _, w). writes-keeps l w)
 
   -- w is written where the list l passes its tests
-  list-keeps : (D : ℕ) (l w : List ℕ) → Decided (keeping o) (TooDeep deepest D ∷ Faulty D l 1 ∷ []) (WritesOf w o) t → KeptOf o t
-  list-keeps D l w = decided-keeps (TooDeep deepest D ∷ Faulty D l 1 ∷ []) (WritesOf w o) (writes-keeps w)
+  tested-keeps : (D : ℕ) (l w : List ℕ) → Decided (keeping o) (TooDeep deepest D ∷ Faulty D l 1 ∷ []) (WritesOf w o) t → KeptOf o t
+  tested-keeps D l w = decided-keeps (TooDeep deepest D ∷ Faulty D l 1 ∷ []) (WritesOf w o) (writes-keeps w)
 
   shift-keeps : (D : ℕ) (l : List ℕ) (d : ℕ → ℤ) → ShiftOf D l d o t → KeptOf o t
-  shift-keeps D l d = found-keeps (Straying D (Came D d) l ∷ []) D (FromBlack D (Came D d) l)
+  shift-keeps D l d = good-list-keeps (Straying D (Came D d) l ∷ []) D (FromBlack D (Came D d) l)
 
 -- ---- the calls
 
 pub set-keeps : (op : Op) (D : ℕ) (a b : List ℕ) → Keeps (SetOf op D a b)
-set-keeps op D a b o o' r d = found-keeps o (r, o') (TooDeep deepest D ∷ Faulty D a 1 ∷ Faulty D b 2 ∷ []) D (InResult op D a b) d
+set-keeps op D a b o o' r d = good-list-keeps o (r, o') (TooDeep deepest D ∷ Faulty D a 1 ∷ Faulty D b 2 ∷ []) D (InResult op D a b) d
 
 pub move-keeps : (D : ℕ) (l : List ℕ) (m : Move) → Keeps (MoveOf D l m)
 move-keeps D l m o o' r d =
     decided-keeps o (r, o') (TooDeep deepest D ∷ Faulty D l 1 ∷ moveTests m) _ (λ (dx, dy, dz, _, s). shift-keeps o (r, o') D l (axes dx dy dz) s) d
 
 pub write-keeps : (D : ℕ) (l : List ℕ) → Keeps (WriteOf D l)
-write-keeps D l o o' r d = list-keeps o (r, o') D l (fileOf D l) d
+write-keeps D l o o' r d = tested-keeps o (r, o') D l (fileOf D l) d
 
 -- whatever depth D comes beside the answer
 pub read-keeps : (b : List ℕ) (D : ℕ) → Keeps (λ o r o'. ReadOf b o (record { answer = r; depth = D }) o')
@@ -81,7 +82,7 @@ read-keeps b D o o' r d =
     success = (record { answer = given (length (codes b)); depth = depthOf b }, stands (codes b) o)
 
 pub text-keeps : (D : ℕ) (l : List ℕ) → Keeps (TextOf D l)
-text-keeps D l o o' r d = list-keeps o (r, o') D l (textOf D l) d
+text-keeps D l o o' r d = tested-keeps o (r, o') D l (textOf D l) d
 
 pub refused-keeps : (n p : ℕ) → Keeps (RefusedOf n p)
 refused-keeps n p o o' r d = writes-keeps o (r, o') (refusedText n p) d

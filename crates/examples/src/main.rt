@@ -4,6 +4,7 @@ mod on_cells;
 mod on_moves;
 mod on_records;
 mod on_sets;
+mod on_text;
 mod print;
 
 fn main() {
@@ -13,4 +14,5 @@ fn main() {
     on_moves::run();
     on_moves::run_metres();
     on_blocks::run();
+    on_text::run();
 }
