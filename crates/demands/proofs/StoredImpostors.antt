@@ -1,9 +1,9 @@
--- The impostors of document 01, "How tight the statements are", for the calls on stored files: what each would leave at a named input does not fit the call's
--- definition. Each follows from one right answer and the law that no second answer fits. Assumes nothing.
+-- The impostors of document 01, "How tight the statements are", for the calls on stored files, those for C among them: what each would leave at a named input
+-- does not fit the call's definition. Each follows from one right answer and the law that no second answer fits. Assumes nothing.
 use mathlib.Core.Path.{_≡_, refl, sym, ap, _∙_}
 use mathlib.Core.Logic.{inl, inr}
 use mathlib.Core.List.{List, [], _∷_, _++_}
-use Prim.Native.Nat.{ℕ, _<_}
+use Prim.Native.Nat.{ℕ, _^_, _≤_, _<_}
 use native.Mathlib.Omega.{arith}
 use lib.ListN.{length, getD, drop, replicate, length-replicate, List·getD-append}
 use Rattle.cells.specs.Answer.{answer, given}
@@ -20,6 +20,8 @@ use Rattle.blocks.proofs.Sound.{sound-passes}
 use Rattle.blocks.proofs.CallLaws.{one-check-blocks, one-stored-volume, one-read, one-write}
 use Rattle.blocks.proofs.Theorems.{writes-good, reads-file}
 use Rattle.blocks.proofs.Instances.{good, one-sound, one-depth, one-codes, block-check-holds, stored-volume-holds, read-holds, write-holds}
+use Rattle.cab.specs.Packed.{Packed}
+use Rattle.cab.proofs.Unique.{one-cab-check-blocks, one-cab-stored-volume, cab-check-blocks-holds, cab-stored-volume-holds}
 use Rattle.demands.specs.Examples.{r057}
 use Rattle.demands.specs.Laws.{Succeeds}
 use Rattle.demands.proofs.Outcomes.{Left, numberOf, placeOf}
@@ -52,6 +54,13 @@ rejects-block-check r refused h = refused (ap (λ (a : Answer). a .number) (one-
 
 pub rejects-stored-volume : (r : Answer) → (Succeeds r → ⊥) → StoredVolumeOf (fileOf 3 r057) r → ⊥
 rejects-stored-volume r refused h = refused (ap (λ (a : Answer). a .number) (one-stored-volume (fileOf 3 r057) r _ h stored-volume-holds))
+
+-- for C a refusal is a number of 2^32 or more
+pub rejects-cab-check-blocks : (w : ℕ) → 2 ^ 32 ≤ w → Packed (BlockCheckOf (fileOf 3 r057)) w → ⊥
+rejects-cab-check-blocks w refused h = let e : w ≡ 1 = one-cab-check-blocks (fileOf 3 r057) w 1 h cab-check-blocks-holds in omega arith
+
+pub rejects-cab-stored-volume : (w : ℕ) → 2 ^ 32 ≤ w → Packed (StoredVolumeOf (fileOf 3 r057)) w → ⊥
+rejects-cab-stored-volume w refused h = let e : w ≡ 1 = one-cab-stored-volume (fileOf 3 r057) w 1 h cab-stored-volume-holds in omega arith
 
 -- ---- one that hands out a fixed list or file
 
