@@ -1,22 +1,23 @@
 -- What follows of the calls `write` and `read`: a good list written and read is itself, with its depth; a sound file of a good list read and written is itself.
 -- Each law takes the calls' own definitions. Assumes nothing.
-use mathlib.Core.Path.{_≡_, refl, sym, ap, ap₂, subst, _∙_}
-use mathlib.Core.List.{List, _++_}
-use mathlib.Core.Logic.{inl, inr}
+use mathlib.Core.Path.{_≡_, refl, ap, subst}
+use mathlib.Core.List.{List, [], _∷_, _++_}
+use mathlib.Core.Logic.{inr}
 use Prim.Native.Nat.{ℕ, _*_, _≤_, _<_}
 use native.Mathlib.Omega.{arith}
 use lib.ListN.{length, getD, take, drop}
-use lib.Seq.{take-append-seam}
-use Rattle.cells.specs.Answer.{given, deepest}
+use Rattle.cells.specs.Answer.{given, keeping, deepest, TooDeep}
 use Rattle.cells.specs.declared.Answer.{Answer}
-use Rattle.cells.proofs.Decisions.{passes, refuses-numbered}
+use Rattle.cells.proofs.Decisions.{passes, shallow-enough, refuses-numbered, decided-passed}
 use Rattle.records.specs.Record.{Good}
-use Rattle.records.specs.Writing.{stands}
+use Rattle.records.specs.Fault.{Faulty}
+use Rattle.records.specs.Writing.{stands, TooShort, WritesOf}
 use Rattle.records.proofs.Writing.{list-fitting}
+use Rattle.records.proofs.Fronts.{Front, Left, left-front, writes-success}
 use Rattle.records.proofs.First.{not-faulty, faulty-numbered, good-passes}
 use Rattle.blocks.specs.Block.{blockBytes, depthOf, codes}
 use Rattle.blocks.specs.File.{blocksOf, fileOf}
-use Rattle.blocks.specs.Calls.{ReadOf, WriteOf}
+use Rattle.blocks.specs.Calls.{Unsound, unread, ReadOf, WriteOf}
 use Rattle.blocks.specs.Inner.{Sound}
 use Rattle.blocks.specs.declared.Reading.{Reading}
 use Rattle.blocks.proofs.Sound.{shallow-file, unsound-numbered, sound-passes, not-unsound}
@@ -30,26 +31,37 @@ use Rattle.blocks.proofs.CallLaws.{one-read, one-write}
 pub record WriteSuccess (D : ℕ) (l o : List ℕ) (r : Answer) (after : List ℕ) : Type 0 where
   pub shallow : D ≤ deepest
   pub good : Good D l
-  pub is-left : _≡_ {A = Answer × List ℕ} (r, after) (given (length (fileOf D l)), stands (fileOf D l) o)
+  pub is-left : Left (fileOf D l) o r after
+  pub front : Front (fileOf D l) (r .place) after
 
 pub write-success : (D : ℕ) (l o : List ℕ) (r : Answer) (after : List ℕ) → WriteOf D l o r after → r .number ≡ 0 → WriteSuccess D l o r after
-write-success D l o r after (inl (a, t, e)) z = absurd (refuses-numbered (λ x. omega arith) a t (ap (λ (s : Answer × List ℕ). s .0 .number) (sym e) ∙ z))
-write-success D l o r after (inr (deep, inl (a, t, e))) z = absurd (faulty-numbered D l 1 a t (ap (λ (s : Answer × List ℕ). s .0 .number) (sym e) ∙ z))
-write-success D l o r after (inr (deep, inr (clean, inl (a, t, e)))) z = absurd (refuses-numbered (λ x. omega arith) a t (ap (λ (s : Answer × List ℕ). s .0 .number) (sym e) ∙ z))
-write-success D l o r after (inr (deep, inr (clean, inr (_, e)))) z = let not-deep : deepest < D → ⊥ = λ h. deep _ (h, refl) in record { shallow = omega arith; good = not-faulty D l 1 clean; is-left = e }
+write-success D l o r after d z =
+    let ((deep, (clean, _)), w) = decided-passed (λ s. s .0 .number) (keeping o) (λ x. refl) (TooDeep deepest D ∷ Faulty D l 1 ∷ []) (WritesOf (fileOf D l) o) (r, after)
+      (refuses-numbered (λ x. omega arith), (faulty-numbered D l 1, tt)) z d in
+    let e = writes-success (fileOf D l) o r after w z in
+    record { shallow = shallow-enough deep; good = not-faulty D l 1 clean; is-left = e; front = left-front (fileOf D l) o r after e }
 
 -- of `read`
 pub record ReadSuccess (b o : List ℕ) (r : Reading) (after : List ℕ) : Type 0 where
   pub is-sound : Sound b
   pub good : Good (depthOf b) (codes b)
-  pub is-left : _≡_ {A = Reading × List ℕ} (r, after) (record { answer = given (length (codes b)); depth = depthOf b }, stands (codes b) o)
+  pub is-depth : r .depth ≡ depthOf b
+  pub is-left : Left (codes b) o (r .answer) after
+  pub front : Front (codes b) (r .answer .place) after
 
 pub read-success : (b o : List ℕ) (r : Reading) (after : List ℕ) → ReadOf b o r after → r .answer .number ≡ 0 → ReadSuccess b o r after
-read-success b o r after (inl (a, t, e)) z = absurd (unsound-numbered b a t (ap (λ (s : Reading × List ℕ). s .0 .answer .number) (sym e) ∙ z))
-read-success b o r after (inr (unsound, inl (a, t, e))) z = absurd (faulty-numbered (depthOf b) (codes b) 1 a t (ap (λ (s : Reading × List ℕ). s .0 .answer .number) (sym e) ∙ z))
-read-success b o r after (inr (unsound, inr (clean, inl (a, t, e)))) z = absurd (refuses-numbered (λ x. omega arith) a t (ap (λ (s : Reading × List ℕ). s .0 .answer .number) (sym e) ∙ z))
-read-success b o r after (inr (unsound, inr (clean, inr (_, e)))) z =
-    record { is-sound = not-unsound b unsound; good = not-faulty (depthOf b) (codes b) 1 clean; is-left = e }
+read-success b o r after d z =
+    let ((unsound, (clean, _)), e) = decided-passed (λ t. t .0 .answer .number) (unread o) (λ x. refl) (Unsound b ∷ Faulty (depthOf b) (codes b) 1 ∷ TooShort (length (codes b)) o ∷ [])
+      (λ t. t ≡ (record { answer = given (length (codes b)); depth = depthOf b }, stands (codes b) o)) (r, after)
+      (unsound-numbered b, (faulty-numbered (depthOf b) (codes b) 1, (refuses-numbered (λ x. omega arith), tt))) z d in
+    let left : Left (codes b) o (r .answer) after = ap (λ (t : Reading × List ℕ). (t .0 .answer, t .1)) e in
+    record {
+      is-sound = not-unsound b unsound;
+      good = not-faulty (depthOf b) (codes b) 1 clean;
+      is-depth = ap (λ (t : Reading × List ℕ). t .0 .depth) e;
+      is-left = left;
+      front = left-front (codes b) o (r .answer) after left;
+    }
 
 -- ---- the answers that fit
 
@@ -77,8 +89,7 @@ pub written-read : (D : ℕ) (l o : List ℕ) (r : Answer) (o' : List ℕ) → W
     → (s ≡ record { answer = given (length l); depth = D }) × (q' ≡ stands l q)
 written-read D l o r o' w z q s q' d room =
     let k = write-success D l o r o' w z in
-    let front : take (r .place) o' ≡ fileOf D l = ap₂ take (ap (λ (t : Answer × List ℕ). t .0 .place) (k .is-left)) (ap (λ (t : Answer × List ℕ). t .1) (k .is-left)) ∙ take-append-seam (fileOf D l) (drop (length (fileOf D l)) o) in
-    let e = one-read (fileOf D l) q (s, q') (record { answer = given (length l); depth = D }, stands l q) (subst (λ (b : List ℕ). ReadOf b q s q') front d) (reads-file D l q (k .shallow) (k .good) room) in
+    let e = one-read (fileOf D l) q (s, q') (record { answer = given (length l); depth = D }, stands l q) (subst (λ (b : List ℕ). ReadOf b q s q') (k .front .is-front) d) (reads-file D l q (k .shallow) (k .good) room) in
     (ap (λ (t : Reading × List ℕ). t .0) e, ap (λ (t : Reading × List ℕ). t .1) e)
 
 -- a file of bytes that was read, its list written at its depth: itself
@@ -87,8 +98,6 @@ pub read-written : (b o : List ℕ) (r : Reading) (o' : List ℕ) → ReadOf b o
     → (a ≡ given (length b)) × (q' ≡ stands b q)
 read-written b o r o' d z small q a q' w room =
     let k = read-success b o r o' d z in
-    let depth : r .depth ≡ depthOf b = ap (λ (t : Reading × List ℕ). t .0 .depth) (k .is-left) in
-    let front : take (r .answer .place) o' ≡ codes b = ap₂ take (ap (λ (t : Reading × List ℕ). t .0 .answer .place) (k .is-left)) (ap (λ (t : Reading × List ℕ). t .1) (k .is-left)) ∙ take-append-seam (codes b) (drop (length (codes b)) o) in
-    let w' : WriteOf (depthOf b) (codes b) q a q' = rw (depth, front) at w in
+    let w' : WriteOf (depthOf b) (codes b) q a q' = rw (k .is-depth, k .front .is-front) at w in
     let e = one-write (depthOf b) (codes b) q (a, q') (given (length b), stands b q) w' (writes-codes b q (k .is-sound) small (k .good) room) in
     (ap (λ (t : Answer × List ℕ). t .0) e, ap (λ (t : Answer × List ℕ). t .1) e)

@@ -1,10 +1,10 @@
 -- How a row of tests decides, and how it is met: where each test refuses with one answer at most and one thing at most holds past them, no second answer fits. Assumes nothing.
-use mathlib.Core.Path.{_≡_, sym, ap, _∙_, subst⁻¹}
+use mathlib.Core.Path.{_≡_, refl, sym, ap, _∙_, subst⁻¹}
 use mathlib.Core.Logic.{inl, inr}
 use mathlib.Core.List.{List, [], _∷_, _++_}
 use Prim.Native.Nat.{ℕ, _≤_, _<_}
 use native.Mathlib.Omega.{arith}
-use Rattle.cells.specs.Answer.{given, Test, Decided, alone, refuses, refusesFirst}
+use Rattle.cells.specs.Answer.{answer, given, Test, Decided, alone, refuses, refusesFirst, TooDeep}
 use Rattle.cells.specs.declared.Answer.{Answer}
 use Rattle.cells.proofs.Firsts.{one-first}
 
@@ -49,6 +49,10 @@ passes-first none a (i, f, _) = none i (f .below) (f .here)
 pub deep-enough : {limit D : ℕ} → D ≤ limit → limit < D → ⊥
 deep-enough h g = omega arith
 
+-- and back
+pub shallow-enough : {limit D : ℕ} → ((a : Answer) → TooDeep limit D a → ⊥) → D ≤ limit
+shallow-enough {limit} {D} none = let h : limit < D → ⊥ = λ g. none (answer 1 0 0) (g, refl) in omega arith
+
 -- ---- from one row's outcome to another's
 
 -- past a test that passes
@@ -78,25 +82,28 @@ abbrev pub Passed : List Test → Type 0
 Passed [] = Unit {0}
 Passed (F ∷ Fs) = ((a : Answer) → F a → ⊥) × Passed Fs
 
--- a row of tests, and then another: where the answer r of the first row's call is no success, it is passed on
-pub decided-first : {S : Type 0} (refuse : Answer → S) (Fs Gs : List Test) (P : Answer → Type 0) (Q : S → Type 0) (r : Answer)
-    → (P r → ⊥) → Decided alone Fs P r → Decided refuse (Fs ++ Gs) Q (refuse r)
-decided-first refuse [] Gs P Q r none d = absurd (none d)
-decided-first refuse (F ∷ Fs) Gs P Q r none (inl (a, t, e)) = inl (a, t, ap refuse e)
-decided-first refuse (F ∷ Fs) Gs P Q r none (inr (n, d)) = inr (n, decided-first refuse Fs Gs P Q r none d)
+-- a row of tests, and then another, after a call that ran the first row and left r: what the first row refuses is passed on, in what `wide` makes of it
+pub decided-first : {R S : Type 0} (wide : R → S) (refuse : Answer → R) (Fs Gs : List Test) (P : R → Type 0) (Q : S → Type 0) (r : R)
+    → (P r → Decided (λ a. wide (refuse a)) Gs Q (wide r)) → Decided refuse Fs P r → Decided (λ a. wide (refuse a)) (Fs ++ Gs) Q (wide r)
+decided-first wide refuse [] Gs P Q r to d = to d
+decided-first wide refuse (F ∷ Fs) Gs P Q r to (inl (a, t, e)) = inl (a, t, ap wide e)
+decided-first wide refuse (F ∷ Fs) Gs P Q r to (inr (n, d)) = inr (n, decided-first wide refuse Fs Gs P Q r to d)
 
--- and where its number is 0, each of its tests passes, and the other row decides
-pub decided-next : {S : Type 0} (refuse : Answer → S) (Fs Gs : List Test) (P : Answer → Type 0) (Q : S → Type 0) (r : Answer) (s : S)
-    → Numbered Fs → r .number ≡ 0 → (P r → Decided refuse Gs Q s) → Decided alone Fs P r → Decided refuse (Fs ++ Gs) Q s
-decided-next refuse [] Gs P Q r s of-none z to d = to d
-decided-next refuse (F ∷ Fs) Gs P Q r s (of-f, of-fs) z to (inl (a, t, e)) = absurd (of-f a t (ap (λ (x : Answer). x .number) (sym e) ∙ z))
-decided-next refuse (F ∷ Fs) Gs P Q r s (of-f, of-fs) z to (inr (n, d)) = inr (n, decided-next refuse Fs Gs P Q r s of-fs z to d)
+-- `number` reads the number off what a call leaves
+abbrev pub Reads : {R : Type 0} → (R → ℕ) → (Answer → R) → Type 0
+Reads number refuse = (a : Answer) → number (refuse a) ≡ a .number
 
--- each of its tests passes, and P holds
-pub decided-passed : (Fs : List Test) (P : Answer → Type 0) (r : Answer) → Numbered Fs → r .number ≡ 0 → Decided alone Fs P r → Passed Fs × P r
-decided-passed [] P r of-none z d = (tt, d)
-decided-passed (F ∷ Fs) P r (of-f, of-fs) z (inl (a, t, e)) = absurd (of-f a t (ap (λ (x : Answer). x .number) (sym e) ∙ z))
-decided-passed (F ∷ Fs) P r (of-f, of-fs) z (inr (n, d)) = let (ns, p) = decided-passed Fs P r of-fs z d in ((n, ns), p)
+-- where the number is 0, each test of the first row passes, and P holds
+pub decided-passed : {R : Type 0} (number : R → ℕ) (refuse : Answer → R) → Reads number refuse → (Fs : List Test) (P : R → Type 0) (r : R)
+    → Numbered Fs → number r ≡ 0 → Decided refuse Fs P r → Passed Fs × P r
+decided-passed number refuse reads [] P r of-none z d = (tt, d)
+decided-passed number refuse reads (F ∷ Fs) P r (of-f, of-fs) z (inl (a, t, e)) = absurd (of-f a t (sym (reads a) ∙ ap number (sym e) ∙ z))
+decided-passed number refuse reads (F ∷ Fs) P r (of-f, of-fs) z (inr (n, d)) = let (ns, p) = decided-passed number refuse reads Fs P r of-fs z d in ((n, ns), p)
+
+-- and the other row decides
+pub decided-next : {S : Type 0} (refuse : Answer → S) (Fs Gs : List Test) (Q : S → Type 0) (s : S) → Passed Fs → Decided refuse Gs Q s → Decided refuse (Fs ++ Gs) Q s
+decided-next refuse [] Gs Q s of-none d = d
+decided-next refuse (F ∷ Fs) Gs Q s (n, ns) d = inr (n, decided-next refuse Fs Gs Q s ns d)
 
 -- ---- a call that opens with another's tests: it asks that call, passes a refusal on, and goes on where its number is 0
 
@@ -113,12 +120,15 @@ opening-given {Fs} {K} numbered known = record { numbered = numbered; succeeds =
 module _ {Fs : List Test} {P K : Answer → Type 0} (o : Opening Fs P K) (r : Answer) (d : Decided alone Fs P r) where
   -- a refusal is passed on
   pub opening-refuses : {S : Type 0} (refuse : Answer → S) (Gs : List Test) (Q : S → Type 0) → (r .number ≡ 0 → ⊥) → Decided refuse (Fs ++ Gs) Q (refuse r)
-  opening-refuses refuse Gs Q some = decided-first refuse Fs Gs P Q r (λ p. some (o .succeeds r p)) d
+  opening-refuses refuse Gs Q some = decided-first refuse alone Fs Gs P Q r (λ p. absurd (some (o .succeeds r p))) d
+
+  passed : r .number ≡ 0 → Passed Fs × P r
+  passed z = decided-passed (λ a. a .number) alone (λ a. refl) Fs P r (o .numbered) z d
 
   -- else the further tests decide
   pub opening-passes : {S : Type 0} (refuse : Answer → S) (Gs : List Test) (Q : S → Type 0) (s : S) → r .number ≡ 0 → Decided refuse Gs Q s → Decided refuse (Fs ++ Gs) Q s
-  opening-passes refuse Gs Q s z q = decided-next refuse Fs Gs P Q r s (o .numbered) z (λ _. q) d
+  opening-passes refuse Gs Q s z q = decided-next refuse Fs Gs Q s (passed z .0) q
 
   -- and K holds
   pub opening-known : r .number ≡ 0 → K r
-  opening-known z = let (ns, p) = decided-passed Fs P r (o .numbered) z d in o .known r ns p
+  opening-known z = let (ns, p) = passed z in o .known r ns p

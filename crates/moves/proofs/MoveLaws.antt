@@ -1,4 +1,4 @@
--- What follows of the move call: its answer worked out, and no second answer fits. Assumes nothing.
+-- What follows of the move call: its answer worked out, no second answer fits, and what success says. Assumes nothing.
 use mathlib.Core.Path.{_≡_, refl}
 use mathlib.Core.Logic.{inl, inr}
 use mathlib.Core.Bool.{Bool, true, false}
@@ -11,17 +11,18 @@ use Rattle.cells.specs.Answer.{answer, Decided, keeping, deepest, TooDeep}
 use Rattle.cells.specs.Place.{axes, Came}
 use Rattle.cells.specs.declared.Answer.{Answer}
 use Rattle.cells.proofs.Bools.{clash}
-use Rattle.cells.proofs.Decisions.{One, Ones, one-refuses, one-refuses-first, one-decided, passes, deep-enough}
+use Rattle.cells.proofs.Decisions.{One, Ones, Numbered, one-refuses, one-refuses-first, one-decided, passes, deep-enough, shallow-enough, refuses-numbered, refuses-first-numbered, decided-passed}
 use Rattle.records.specs.Record.{Ordered, Good, ListOf}
 use Rattle.records.specs.Fault.{allFrom, Faulty}
 use Rattle.records.specs.Carried.{FromBlack, Straying}
 use Rattle.records.specs.Writing.{WritesListOf}
-use Rattle.records.proofs.First.{good-passes}
+use Rattle.records.proofs.First.{good-passes, not-faulty, faulty-numbered}
 use Rattle.records.proofs.Fill.{all-true, goodList}
 use Rattle.records.proofs.OneList.{good-list, list-same}
 use Rattle.records.proofs.Carrying.{Accepted, accepted-passes}
+use Rattle.records.proofs.Fronts.{ListSuccess, list-success}
 use Rattle.emit.proofs.Answers.{one-list-written}
-use Rattle.metres.specs.Metres.{moveTests}
+use Rattle.metres.specs.Metres.{moveTests, Becomes}
 use Rattle.metres.specs.declared.Move.{Move}
 use Rattle.metres.specs.declared.Move.the-variants as MoveV
 use Rattle.metres.proofs.TakenLaws.{one-becomes}
@@ -78,3 +79,30 @@ one-move D l m o = one-decided (keeping o) (TooDeep deepest D ∷ Faulty D l 1 �
     whole r s (i, j, k, b, h) (i', j', k', b', h') =
         let same = one-becomes m (axes i j k) (axes i' j' k') b b' in
         one-shift D l (axes i j k) o r s h (rw (same 0 (omega arith), same 1 (omega arith), same 2 (omega arith)) h')
+
+-- ---- what success says
+
+pub record MoveSuccess (D : ℕ) (l : List ℕ) (m : Move) (o : List ℕ) (r : Answer) (after : List ℕ) : Type 0 where
+  pub shallow : D ≤ deepest
+  pub good : Good D l
+  -- the displacement along each axis
+  pub by : ℕ → ℤ
+  pub becomes : Becomes m by
+  pub result : ListSuccess D (FromBlack D (Came D by) l) o r after
+
+-- of a shift
+shift-success : (D : ℕ) (l : List ℕ) (d : ℕ → ℤ) (o : List ℕ) (r : Answer) (after : List ℕ) → ShiftOf D l d o (r, after) → r .number ≡ 0 → ListSuccess D (FromBlack D (Came D d) l) o r after
+shift-success D l d o r after s z =
+    let (_, w) = decided-passed (λ t. t .0 .number) (keeping o) (λ x. refl) (Straying D (Came D d) l ∷ []) (WritesListOf D (FromBlack D (Came D d) l) o) (r, after)
+      (refuses-first-numbered (λ i x e. omega arith), tt) z s in
+    list-success D (FromBlack D (Came D d) l) o r after w z
+
+pub move-success : (D : ℕ) (l : List ℕ) (m : Move) (o : List ℕ) (r : Answer) (after : List ℕ) → MoveOf D l m o r after → r .number ≡ 0 → MoveSuccess D l m o r after
+move-success D l m o r after d z =
+    let ((deep, (first, _)), (i, j, k, b, s)) = decided-passed (λ t. t .0 .number) (keeping o) (λ x. refl) (TooDeep deepest D ∷ Faulty D l 1 ∷ moveTests m) (ByVoxels D l m o) (r, after)
+      (refuses-numbered (λ x. omega arith), (faulty-numbered D l 1, numbered m)) z d in
+    record { shallow = shallow-enough deep; good = not-faulty D l 1 first; by = axes i j k; becomes = b; result = shift-success D l (axes i j k) o r after s z }
+  where
+    numbered : (m : Move) → Numbered (moveTests m)
+    numbered (MoveV.Voxels i j k) = tt
+    numbered (MoveV.Metres d) = (refuses-numbered (λ x. omega arith), (refuses-first-numbered (λ i x e. omega arith), tt))

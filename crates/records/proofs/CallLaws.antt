@@ -8,7 +8,7 @@ use lib.ListN.{length}
 use Rattle.cells.specs.Answer.{given, alone, deepest, TooDeep}
 use Rattle.cells.specs.Place.{axes}
 use Rattle.cells.specs.declared.Answer.{Answer}
-use Rattle.cells.proofs.Decisions.{One, one-equal, one-refuses, one-refuses-first, one-decided, refuses-numbered, Opening, opening-given}
+use Rattle.cells.proofs.Decisions.{One, one-equal, one-refuses, one-refuses-first, one-decided, refuses-numbered, Opening, opening-given, shallow-enough}
 use Rattle.records.specs.Record.{Good}
 use Rattle.records.specs.Fault.{Faulty}
 use Rattle.records.specs.Calls.{NoVoxel, CheckOf, LookupOf, VolumeOf}
@@ -35,7 +35,7 @@ module _ (D : ℕ) (l : List ℕ) where
   pub checks : Opening (TooDeep deepest D ∷ Faulty D l 1 ∷ []) (λ r. r ≡ given (length l)) (λ r. Checked D l (r .place))
   checks =
       opening-given (refuses-numbered (λ z. omega arith), (faulty-numbered D l 1, tt))
-      (λ (deep, (clean, _)). let shallow : deepest < D → ⊥ = λ h. deep _ (h, refl) in checked 1 (omega arith) clean)
+      (λ (deep, (clean, _)). checked 1 (shallow-enough deep) clean)
 
 -- ---- no second answer
 

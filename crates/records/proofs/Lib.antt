@@ -27,7 +27,8 @@ pub mod SlotLaws
 pub mod Arrays
 -- what follows of the calls, and instances
 pub mod CallLaws
--- what is written to the front of a buffer
+-- what is written to the front of a buffer, and what a caller may then take there
 pub mod Writing
+pub mod Fronts
 pub mod MetLaws
 pub mod Instances

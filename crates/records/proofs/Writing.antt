@@ -9,7 +9,7 @@ use lib.ListN.{length, set, take, drop, drop-of-length-le}
 use lib.Seq.{sets, sets-eq, length-take-le}
 use Rattle.cells.specs.Answer.{answer, given, Test, Decided, alone, keeping, deepest, TooDeep}
 use Rattle.cells.specs.declared.Answer.{Answer}
-use Rattle.cells.proofs.Decisions.{One, one-equal, one-refuses, one-refuses-first, one-decided, passes, deep-enough, decided-first, decided-next}
+use Rattle.cells.proofs.Decisions.{One, one-equal, one-refuses, one-refuses-first, one-decided, passes, deep-enough, Opening, opening-given, opening-refuses, opening-passes}
 use Rattle.records.specs.Record.{Good}
 use Rattle.records.specs.Fault.{Faulty}
 use Rattle.records.specs.Writing.{stands, TooShort, WritesOf}
@@ -73,8 +73,11 @@ module _ (t o : List ℕ) where
     list-fitting h g room = inr (passes (deep-enough h), inr (good-passes D l 1 g, writes-fitting room))
 
     module _ (n : ℕ) (a : Answer) (d : Decided alone tests (λ x. x ≡ given n) a) where
+      opens : Opening tests (λ x. x ≡ given n) (λ x. Unit {0})
+      opens = opening-given (checks D l .numbered) (λ passed. tt)
+
       pub list-refused : (a .number ≡ 0 → ⊥) → ListWrites (a, o)
-      list-refused some = decided-first (keeping o) tests [] (λ x. x ≡ given n) (WritesOf t o) a (λ e. some (ap (λ (x : Answer). x .number) e)) d
+      list-refused some = opening-refuses opens a d (keeping o) [] (WritesOf t o) some
 
       pub list-written : a .number ≡ 0 → (r : Answer) (after : List ℕ) → WritesOf t o (r, after) → ListWrites (r, after)
-      list-written z r after w = decided-next (keeping o) tests [] (λ x. x ≡ given n) (WritesOf t o) a (r, after) (checks D l .numbered) z (λ e. w) d
+      list-written z r after w = opening-passes opens a d (keeping o) [] (WritesOf t o) (r, after) z w

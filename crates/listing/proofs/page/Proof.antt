@@ -1,15 +1,13 @@
 -- `listing::page` meets its contract: neither the codes nor the text are ever short of room. Assumes nothing.
-use mathlib.Core.Path.{_≡_, refl, sym, ap, ap₂, _∙_}
+use mathlib.Core.Path.{_≡_, refl}
 use mathlib.Core.List.{List}
 use mathlib.Core.Logic.{inr}
 use Prim.Native.Nat.{ℕ, _≤_}
 use native.Mathlib.Omega.{arith}
 use borrow.Author.Needs.{needs}
-use lib.ListN.{length, take, drop}
-use lib.Seq.{take-append-seam, length-take-le}
+use lib.ListN.{length}
 use Rattle.records.proofs.First.{good-passes}
 use Rattle.blocks.specs.Block.{depthOf, codes}
-use Rattle.blocks.specs.declared.Reading.{Reading}
 use Rattle.blocks.proofs.Sound.{shallow-file, sound-passes}
 use Rattle.blocks.proofs.Theorems.{ReadSuccess, read-success}
 use Rattle.text.specs.Text.{textOf, TextOf, refusedText}
@@ -48,22 +46,9 @@ module _ (c : tie.Else1) where
   file : ReadSuccess b (start .args .codes .now) (at-read .read .result) (at-read .read .last .1 .0)
   file = read-success b (start .args .codes .now) (at-read .read .result) _ (at-read .read .ensures) none
 
-  -- the codes read are the file's
-  is-place : at-read .read .result .answer .place ≡ length (codes b)
-  is-place = ap (λ (t : Reading × List ℕ). t .0 .answer .place) (file .is-left)
-
-  is-depth : at-read .read .result .depth ≡ depthOf b
-  is-depth = ap (λ (t : Reading × List ℕ). t .0 .depth) (file .is-left)
-
-  front : take (at-read .read .result .answer .place) (at-read .read .last .1 .0) ≡ codes b
-  front = ap₂ take is-place (ap (λ (t : Reading × List ℕ). t .1) (file .is-left)) ∙ take-append-seam (codes b) (drop (length (codes b)) (start .args .codes .now))
-
   -- they fit
   few : length (codes b) ≤ mostCodes
   few = few-codes b (file .is-sound) (start .pre .0)
-
-  room : at-read .read .result .answer .place ≤ length (at-read .read .last .1 .0)
-  room = omega (arith, is-place, few, start .pre .1, at-read .read .kept .1 .0)
 
 returns-2 : tie.Need-returns-2
 returns-2 c =
@@ -72,7 +57,7 @@ returns-2 c =
     let o = start else1 .args .text .now in
     let D = depthOf (b else1) in
     let k = codes (b else1) in
-    let w : TextOf D k o (at-list-text .list-text .result) (at-list-text .list-text .last .1 .1 .0) = rw (is-depth else1, front else1) at (at-list-text .list-text .ensures) in
+    let w : TextOf D k o (at-list-text .list-text .result) (at-list-text .list-text .last .1 .1 .0) = rw (file else1 .is-depth, file else1 .front .is-front) at (at-list-text .list-text .ensures) in
     let h = shallow-file (b else1) (file else1 .is-sound) in
     page-of (b else1) o (textOf D k) (at-list-text .list-text .result) _ (inr (sound-passes (b else1) (file else1 .is-sound), inr (good-passes D k 1 (file else1 .good), refl)))
     (text-left D k o (at-list-text .list-text .result) _ w h (file else1 .good) (omega (arith, text-length D k h, few else1, start else1 .pre .2)))
@@ -83,7 +68,7 @@ page-spec =
     (tie.spec
     (λ c κs. search needs) (λ c κs. search needs) (λ c. search needs) (λ c. search needs)
     returns
-    (λ c. room c)
-    (λ c. let else1 = c .before in sym (length-take-le (at-read else1 .read .result .answer .place) (at-read else1 .read .last .1 .0) (room else1)))
+    (λ c. file c .front .within)
+    (λ c. file (c .before) .front .exact)
     (λ c κs. search needs) (λ c. search needs) (λ c. search needs)
     returns-2)

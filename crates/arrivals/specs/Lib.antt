@@ -1,0 +1,2 @@
+-- What a reader of the contracts reads.
+pub mod Arrivals
