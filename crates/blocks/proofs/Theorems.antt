@@ -6,14 +6,14 @@ use mathlib.Core.Logic.{inr}
 use Prim.Native.Nat.{ℕ, _*_, _≤_, _<_}
 use native.Mathlib.Omega.{arith}
 use lib.ListN.{length, getD, take, drop}
-use Rattle.cells.specs.Answer.{given, keeping, deepest, TooDeep}
+use Rattle.cells.specs.Answer.{given, deepest}
 use Rattle.cells.specs.declared.Answer.{Answer}
-use Rattle.cells.proofs.Decisions.{passes, shallow-enough, refuses-numbered, decided-passed}
+use Rattle.cells.proofs.Decisions.{passes, refuses-numbered, decided-passed}
 use Rattle.records.specs.Record.{Good}
 use Rattle.records.specs.Fault.{Faulty}
-use Rattle.records.specs.Writing.{stands, TooShort, WritesOf}
+use Rattle.records.specs.Writing.{stands, TooShort}
 use Rattle.records.proofs.Writing.{list-fitting}
-use Rattle.records.proofs.Fronts.{Front, Left, left-front, writes-success}
+use Rattle.records.proofs.Fronts.{Front, Left, left-front, FormSuccess, form-success}
 use Rattle.records.proofs.First.{not-faulty, faulty-numbered, good-passes}
 use Rattle.blocks.specs.Block.{blockBytes, depthOf, codes}
 use Rattle.blocks.specs.File.{blocksOf, fileOf}
@@ -28,18 +28,8 @@ use Rattle.blocks.proofs.CallLaws.{one-read, one-write}
 -- ---- what success says
 
 -- of `write`
-pub record WriteSuccess (D : ℕ) (l o : List ℕ) (r : Answer) (after : List ℕ) : Type 0 where
-  pub shallow : D ≤ deepest
-  pub good : Good D l
-  pub is-left : Left (fileOf D l) o r after
-  pub front : Front (fileOf D l) (r .place) after
-
-pub write-success : (D : ℕ) (l o : List ℕ) (r : Answer) (after : List ℕ) → WriteOf D l o r after → r .number ≡ 0 → WriteSuccess D l o r after
-write-success D l o r after d z =
-    let ((deep, (clean, _)), w) = decided-passed (λ s. s .0 .number) (keeping o) (λ x. refl) (TooDeep deepest D ∷ Faulty D l 1 ∷ []) (WritesOf (fileOf D l) o) (r, after)
-      (refuses-numbered (λ x. omega arith), (faulty-numbered D l 1, tt)) z d in
-    let e = writes-success (fileOf D l) o r after w z in
-    record { shallow = shallow-enough deep; good = not-faulty D l 1 clean; is-left = e; front = left-front (fileOf D l) o r after e }
+pub write-success : (D : ℕ) (l o : List ℕ) (r : Answer) (after : List ℕ) → WriteOf D l o r after → r .number ≡ 0 → FormSuccess D l (fileOf D l) o r after
+write-success D l o = form-success D l (fileOf D l) o
 
 -- of `read`
 pub record ReadSuccess (b o : List ℕ) (r : Reading) (after : List ℕ) : Type 0 where

@@ -1,4 +1,4 @@
--- The laws of the calls that give a text: counted first and then written, and no second answer fits. Assumes nothing.
+-- The laws of the calls that give a text: counted first and then written, no second answer fits, and what success says. Assumes nothing.
 use mathlib.Core.Path.{_≡_, refl, ap, _∙_}
 use mathlib.Core.List.{List, [], _∷_, _++_}
 use Prim.Native.Nat.{ℕ, _^_, _≤_, _<_}
@@ -12,6 +12,7 @@ use Rattle.records.specs.Count.{count}
 use Rattle.records.specs.Fault.{Faulty}
 use Rattle.records.specs.Writing.{stands, WritesOf}
 use Rattle.records.proofs.CallLaws.{checks}
+use Rattle.records.proofs.Fronts.{Front, left-front, writes-success, FormSuccess, form-success}
 use Rattle.records.proofs.Writing.{sets-counted, sets-stands, one-writes, one-list-writes, too-short, standing}
 use Rattle.text.specs.Text.{textOf, TextOf, refusedText, RefusedOf}
 use Rattle.text.specs.Inner.{Put}
@@ -59,3 +60,11 @@ one-text D l o = one-list-writes (textOf D l) o D l
 
 pub one-refused : (n p : ℕ) (o : List ℕ) → One (λ (t : Answer × List ℕ). RefusedOf n p o (t .0) (t .1))
 one-refused n p o = one-writes (refusedText n p) o
+
+-- ---- what success says
+
+pub text-success : (D : ℕ) (l o : List ℕ) (r : Answer) (after : List ℕ) → TextOf D l o r after → r .number ≡ 0 → FormSuccess D l (textOf D l) o r after
+text-success D l o = form-success D l (textOf D l) o
+
+pub refused-success : (n p : ℕ) (o : List ℕ) (r : Answer) (after : List ℕ) → RefusedOf n p o r after → r .number ≡ 0 → Front (refusedText n p) (r .place) after
+refused-success n p o r after w z = left-front (refusedText n p) o r after (writes-success (refusedText n p) o r after w z)
