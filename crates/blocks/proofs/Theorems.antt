@@ -13,7 +13,7 @@ use Rattle.records.specs.Record.{Good}
 use Rattle.records.specs.Fault.{Faulty}
 use Rattle.records.specs.Writing.{stands, TooShort}
 use Rattle.records.proofs.Writing.{list-fitting}
-use Rattle.records.proofs.Fronts.{Front, Left, left-front, FormSuccess, form-success}
+use Rattle.records.proofs.Fronts.{Front, Written, left-front, FormSuccess, form-success}
 use Rattle.records.proofs.First.{not-faulty, faulty-numbered, good-passes}
 use Rattle.blocks.specs.Block.{blockBytes, depthOf, codes}
 use Rattle.blocks.specs.File.{blocksOf, fileOf}
@@ -36,7 +36,7 @@ pub record ReadSuccess (b o : List ℕ) (r : Reading) (after : List ℕ) : Type 
   pub is-sound : Sound b
   pub good : Good (depthOf b) (codes b)
   pub is-depth : r .depth ≡ depthOf b
-  pub is-left : Left (codes b) o (r .answer) after
+  pub is-left : Written (codes b) o (r .answer) after
   pub front : Front (codes b) (r .answer .place) after
 
 pub read-success : (b o : List ℕ) (r : Reading) (after : List ℕ) → ReadOf b o r after → r .answer .number ≡ 0 → ReadSuccess b o r after
@@ -44,7 +44,7 @@ read-success b o r after d z =
     let ((unsound, (clean, _)), e) = decided-passed (λ t. t .0 .answer .number) (unread o) (λ x. refl) (Unsound b ∷ Faulty (depthOf b) (codes b) 1 ∷ TooShort (length (codes b)) o ∷ [])
       (λ t. t ≡ (record { answer = given (length (codes b)); depth = depthOf b }, stands (codes b) o)) (r, after)
       (unsound-numbered b, (faulty-numbered (depthOf b) (codes b) 1, (refuses-numbered (λ x. omega arith), tt))) z d in
-    let left : Left (codes b) o (r .answer) after = ap (λ (t : Reading × List ℕ). (t .0 .answer, t .1)) e in
+    let left : Written (codes b) o (r .answer) after = ap (λ (t : Reading × List ℕ). (t .0 .answer, t .1)) e in
     record {
       is-sound = not-unsound b unsound;
       good = not-faulty (depthOf b) (codes b) 1 clean;

@@ -11,15 +11,19 @@ use lib.Seq.{take-append-seam}
 use Rattle.cells.specs.Answer.{answer, given, deepest, TooDeep}
 use Rattle.cells.specs.Place.{axes, Came}
 use Rattle.cells.specs.declared.Answer.{Answer}
-use Rattle.cells.proofs.Decisions.{passes, deep-enough, refuses-numbered}
+use Rattle.cells.proofs.Decisions.{passes, deep-enough, shallow-enough, refuses-numbered}
 use Rattle.records.specs.Record.{black, Good, ListOf}
 use Rattle.records.specs.Carried.{FromBlack}
 use Rattle.records.proofs.First.{faulty-numbered, not-faulty, good-passes}
 use Rattle.records.proofs.OneList.{one-list, list-same}
 use Rattle.records.proofs.Carrying.{Carrying, displacing, Accepted}
 use Rattle.records.specs.Writing.{WritesListOf}
+use Rattle.records.proofs.Fronts.{ListSuccess, list-success}
+use Rattle.sets.proofs.SetLaws.{pair-success}
 use Rattle.moves.specs.Moves.{ShiftOf}
 use Rattle.moves.proofs.Acceptance.{accepted-exactly}
+use Rattle.moves.proofs.MoveLaws.{move-success}
+use Rattle.metres.specs.declared.Move.the-variants.{Voxels}
 use Rattle.demands.specs.Laws.{Carrier, move, Succeeds, Unaccepted, Roomy, wrote, Alike}
 use Rattle.demands.specs.Impostors.{Combines}
 
@@ -39,14 +43,8 @@ frontOf t = getD (t .1) 0 0
 
 -- ---- the test of the depth
 
-pub shallow : (D : ℕ) → ((a : Answer) → TooDeep deepest D a → ⊥) → D ≤ deepest
-shallow D none = let h : deepest < D → ⊥ = λ g. none (answer 1 0 0) (g, refl) in omega arith
-
 pub not-deep : (D : ℕ) → D ≤ deepest → (a : Answer) → TooDeep deepest D a → ⊥
 not-deep D h = passes (deep-enough h)
-
-pub deep-refused : (D : ℕ) (a : Answer) → TooDeep deepest D a → Succeeds a → ⊥
-deep-refused D = refuses-numbered (λ z. omega arith)
 
 -- ---- past the tests: the good list of the voxels that have Q is written, or there is too little room
 
@@ -56,11 +54,17 @@ pub record Gives (D : ℕ) (Q : ℕ → Type 0) (r : Answer) (o : List ℕ) : Ty
   pub list : ListOf D Q (wrote r o)
 
 module _ (D : ℕ) (Q : ℕ → Type 0) (o o' : List ℕ) (r : Answer) where
+  -- where it is known to have succeeded
+  pub success-gives : ListSuccess D Q o r o' → Gives D Q r o'
+  success-gives k = record {
+    is-answer = ap (λ (t : Left). t .0) (k .is-left) ∙ ap (λ (m : List ℕ). given (length m)) (sym (k .front .is-front));
+    list = subst⁻¹ (ListOf D Q) (k .front .is-front) (k .is-list);
+  }
+
+  -- or to have had room
   pub told-gives : WritesListOf D Q o (r, o') → Roomy r → Gives D Q r o'
   told-gives (l, x, inl (a, (_, e), f)) room = absurd (room (ap numberOf f ∙ ap (λ (t : Answer). t .number) e))
-  told-gives (l, x, inr (_, e)) room =
-      let same : wrote r o' ≡ l = ap (λ (t : Left). wrote (t .0) (t .1)) e ∙ take-append-seam l (drop (length l) o) in
-      record { is-answer = ap (λ (t : Left). t .0) e ∙ ap (λ (m : List ℕ). given (length m)) (sym same); list = subst⁻¹ (ListOf D Q) same x }
+  told-gives (l, x, inr (fits, e)) room = success-gives (list-success D Q o r o' (l, x, inr (fits, e)) (ap numberOf e))
 
   -- what is told past the tests of a carrier is not 7
   pub told-accepted : WritesListOf D Q o (r, o') → Unaccepted r → ⊥
@@ -121,12 +125,9 @@ module _ (D : ℕ) (l : List ℕ) (d : ℕ → ℤ) (o o' : List ℕ) (r : Answe
   move-outcome h g (inr (_, inr (_, (i, j, k, same, t)))) = shift-outcome g (rw (same 0 (omega arith), same 1 (omega arith), same 2 (omega arith)) at t)
 
   move-succeeds : move D l d o r o' → Succeeds r → Moved D l R o o' r
-  move-succeeds (inl (a, t, e)) z = absurd (deep-refused D a t (ap numberOf (sym e) ∙ z))
-  move-succeeds (inr (_, inl (a, t, e))) z = absurd (faulty-numbered D l 1 a t (ap numberOf (sym e) ∙ z))
-  move-succeeds (inr (deep, inr (clean, m))) z =
-      let h = shallow D deep in
-      let g = not-faulty D l 1 clean in
-      outcome-moved D l R o o' r h g z (move-outcome h g (inr (deep, inr (clean, m))))
+  move-succeeds m z =
+      let k = move-success D l (Voxels (d 0) (d 1) (d 2)) o r o' m z in
+      outcome-moved D l R o o' r (k .shallow) (k .good) z (move-outcome (k .shallow) (k .good) m)
 
 pub move-carries : Carries move (λ D d. Came D (displacement d))
 move-carries = record { carrying = λ D d. displacing D (displacement d); outcome = move-outcome; moved = move-succeeds }
@@ -153,12 +154,6 @@ module _ (T : Type 0 → Type 0 → Type 0) (D : ℕ) (a b o o' : List ℕ) (r :
     pub gives : Gives D (Resulting T D a b) r o'
 
   pub combine-succeeds : Combines T D a b o r o' → Succeeds r → Combined
-  combine-succeeds (inl (x, t, e)) z = absurd (deep-refused D x t (ap numberOf (sym e) ∙ z))
-  combine-succeeds (inr (_, inl (x, t, e))) z = absurd (faulty-numbered D a 1 x t (ap numberOf (sym e) ∙ z))
-  combine-succeeds (inr (_, inr (_, inl (x, t, e)))) z = absurd (faulty-numbered D b 2 x t (ap numberOf (sym e) ∙ z))
-  combine-succeeds (inr (deep, inr (clean, inr (clean', t)))) z = record {
-    depth = shallow D deep;
-    good-first = not-faulty D a 1 clean;
-    good-second = not-faulty D b 2 clean';
-    gives = told-gives D (Resulting T D a b) o o' r t (λ e. let f : _≡_ {A = ℕ} 0 8 = sym z ∙ e in omega arith);
-  }
+  combine-succeeds d z =
+      let k = pair-success D a b (Resulting T D a b) o r o' d z in
+      record { depth = k .shallow; good-first = k .good-first; good-second = k .good-second; gives = success-gives D (Resulting T D a b) o o' r (k .result) }

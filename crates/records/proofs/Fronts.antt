@@ -31,13 +31,13 @@ stands-front t o n after counted put =
 -- ---- a call that writes t over the buffer o, and succeeds
 
 -- what the answer and the buffer are then
-abbrev pub Left : List ℕ → List ℕ → Answer → List ℕ → Type 0
-Left t o r after = _≡_ {A = Answer × List ℕ} (r, after) (given (length t), stands t o)
+abbrev pub Written : List ℕ → List ℕ → Answer → List ℕ → Type 0
+Written t o r after = _≡_ {A = Answer × List ℕ} (r, after) (given (length t), stands t o)
 
-pub left-front : (t o : List ℕ) (r : Answer) (after : List ℕ) → Left t o r after → Front t (r .place) after
+pub left-front : (t o : List ℕ) (r : Answer) (after : List ℕ) → Written t o r after → Front t (r .place) after
 left-front t o r after e = stands-front t o (r .place) after (ap (λ (s : Answer × List ℕ). s .0 .place) e) (ap (λ (s : Answer × List ℕ). s .1) e)
 
-pub writes-success : (t o : List ℕ) (r : Answer) (after : List ℕ) → WritesOf t o (r, after) → r .number ≡ 0 → Left t o r after
+pub writes-success : (t o : List ℕ) (r : Answer) (after : List ℕ) → WritesOf t o (r, after) → r .number ≡ 0 → Written t o r after
 writes-success t o r after w z =
     decided-passed (λ s. s .0 .number) (keeping o) (λ a. refl) (TooShort (length t) o ∷ []) (λ s. s ≡ (given (length t), stands t o)) (r, after) (refuses-numbered (λ x. omega arith), tt) z w .1
 
@@ -45,7 +45,7 @@ writes-success t o r after w z =
 pub record FormSuccess (D : ℕ) (l t o : List ℕ) (r : Answer) (after : List ℕ) : Type 0 where
   pub shallow : D ≤ deepest
   pub good : Good D l
-  pub is-left : Left t o r after
+  pub is-left : Written t o r after
   pub front : Front t (r .place) after
 
 pub form-success : (D : ℕ) (l t o : List ℕ) (r : Answer) (after : List ℕ)
@@ -59,7 +59,7 @@ form-success D l t o r after d z =
 pub record ListSuccess (D : ℕ) (P : ℕ → Type 0) (o : List ℕ) (r : Answer) (after : List ℕ) : Type 0 where
   pub made : List ℕ
   pub is-list : ListOf D P made
-  pub is-left : Left made o r after
+  pub is-left : Written made o r after
   pub front : Front made (r .place) after
 
 pub list-success : (D : ℕ) (P : ℕ → Type 0) (o : List ℕ) (r : Answer) (after : List ℕ) → WritesListOf D P o (r, after) → r .number ≡ 0 → ListSuccess D P o r after
