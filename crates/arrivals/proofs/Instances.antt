@@ -13,14 +13,21 @@ use Rattle.cells.proofs.Bools.{clash}
 use Rattle.records.specs.Record.{black, Good, ListOf}
 use Rattle.records.proofs.First.{good-passes}
 use Rattle.records.proofs.CallLaws.{checks}
+use Rattle.records.proofs.Writing.{writes-fitting, too-short}
+use Rattle.sets.specs.Sets.{InResult, SetOf}
+use Rattle.sets.specs.declared.Op.the-variants.{Join}
 use Rattle.metres.specs.declared.Move.{Move}
 use Rattle.metres.specs.declared.Move.the-variants.{Voxels}
+use Rattle.moves.specs.Moves.{MoveOf}
+use Rattle.moves.proofs.MoveLaws.{move-of}
 use Rattle.blocks.specs.Block.{whole}
 use Rattle.blocks.specs.File.{fileOf}
-use Rattle.blocks.proofs.Sound.{sound-passes}
+use Rattle.blocks.specs.Calls.{ReadOf, WriteOf}
+use Rattle.blocks.specs.declared.Reading.{Reading}
 use Rattle.blocks.proofs.Files.{file-length}
-use Rattle.blocks.proofs.RoundTrip.{file-sound, file-depth, file-codes}
+use Rattle.blocks.proofs.Theorems.{reads-file}
 use Rattle.arrivals.specs.Arrivals.{Step, ArriveOf, MergeOf}
+use Rattle.arrivals.proofs.Steps.{other-depth, moved, written}
 use Rattle.arrivals.proofs.Theorems.{one-arrive, one-merge}
 
 -- the empty record of depth 3, its file, and a move to the east
@@ -38,37 +45,52 @@ stored = fileOf 3 []
 abbrev east : Move
 east = Voxels (pos 1) (pos 0) (pos 0)
 
+-- ---- arrive
+
 -- no byte at all: 9, with no whole block
 pub arrive-refuses : ArriveOf 3 [] east [] [] (answer 9 0 0, [], [])
 unfolding whole
 arrive-refuses = inl (_, inl (refl, refl), refl)
 
+abbrev reading : Reading
+reading = record { answer = given 0; depth = 3 }
+
+reads-none : ReadOf stored [] reading []
+reads-none = reads-file 3 [] [] (omega arith) good-none (omega arith)
+
 -- the empty record takes every move
-pub arrive-holds : ArriveOf 3 stored east [] [] (given 0, [], [])
+moves-none : MoveOf 3 [] east [] (given 0) []
 unfolding black
-arrive-holds =
-    inr (sound-passes stored (file-sound 3 [] (omega arith) good-none), rw (file-depth 3 [] (omega arith) good-none, file-codes 3 [] (omega arith) good-none)
-    (inr (good-passes 3 [] 1 good-none, inr (passes (λ h. omega arith),
-    inr (passes (λ some. some refl), ((inr (passes (λ h. omega arith), inr (good-passes 3 [] 1 good-none,
-    (pos 1, pos 0, pos 0, (λ a h. refl), inr (passes-first (λ i h. absurd (omega arith)), ([], none-listed _ (λ v (u, e, _). clash e refl), inr (passes (λ h. omega arith), refl))))))), refl))))))
+moves-none =
+    move-of 3 [] east [] (given 0) [] (omega arith) good-none
+    (pos 1, pos 0, pos 0, (λ a h. refl), inr (passes-first (λ i h. absurd (omega arith)), ([], none-listed _ (λ v (u, e, _). clash e refl), writes-fitting [] [] (omega arith))))
+
+pub arrive-holds : ArriveOf 3 stored east [] [] (given 0, [], [])
+arrive-holds = moved 3 stored east [] [] reading [] reads-none refl refl (given 0) [] moves-none
 
 -- at another depth it is refused
 pub arrive-other-depth : ArriveOf 2 stored east [] [] (answer 1 0 0, [], [])
-arrive-other-depth =
-    inr (sound-passes stored (file-sound 3 [] (omega arith) good-none), rw (file-depth 3 [] (omega arith) good-none, file-codes 3 [] (omega arith) good-none)
-    (inr (good-passes 3 [] 1 good-none, inr (passes (λ h. omega arith),
-    inl (_, ((λ (e : _≡_ {A = ℕ} 3 2). omega arith), refl), refl)))))
+arrive-other-depth = other-depth 2 stored east [] [] reading [] reads-none refl (λ (e : _≡_ {A = ℕ} 3 2). omega arith)
 
 pub arrive-fails : ArriveOf 2 stored east [] [] (given 0, [], []) → ⊥
 arrive-fails h = let e : _≡_ {A = ℕ} 0 1 = ap (λ (t : Step). t .0 .number) (one-arrive 2 stored east [] [] _ _ h arrive-other-depth) in omega arith
 
--- two empty records: their file needs 512 bytes, where no byte is lent
-pub merge-refuses : MergeOf 3 [] [] [] [] (answer 8 512 0, [], [])
+-- ---- merge
+
+-- two empty records: their file needs 512 bytes, where none is lent
+joins-none : SetOf Join 3 [] [] [] (given 0) []
 unfolding black
-merge-refuses =
-    inr (passes (λ h. omega arith), inr (good-passes 3 [] 1 good-none, inr (good-passes 3 [] 2 good-none,
-    ([], none-listed _ (λ v. elim [ inl e ↦ clash e refl | inr e ↦ clash e refl ]),
-    inr (passes (λ h. omega arith), (inl (_, (omega (arith, file-length 3 []), refl), rw (file-length 3 []) refl), refl))))))
+joins-none =
+    let joined : ListOf 3 (InResult Join 3 [] []) [] = none-listed _ (λ v. elim [ inl e ↦ clash e refl | inr e ↦ clash e refl ]) in
+    inr (passes (λ h. omega arith), inr (good-passes 3 [] 1 good-none, inr (good-passes 3 [] 2 good-none, ([], joined, writes-fitting [] [] (omega arith)))))
+
+writes-none : WriteOf 3 [] [] (answer 8 512 0) []
+writes-none =
+    let short = too-short (fileOf 3 []) [] 512 (sym (file-length 3 [])) (answer 8 512 0) [] (omega arith) refl refl in
+    inr (passes (λ h. omega arith), inr (good-passes 3 [] 1 good-none, short))
+
+pub merge-refuses : MergeOf 3 [] [] [] [] (answer 8 512 0, [], [])
+merge-refuses = written 3 [] [] [] [] (given 0) [] joins-none refl (answer 8 512 0) [] writes-none
 
 pub merge-fails : MergeOf 3 [] [] [] [] (given 0, [], []) → ⊥
 merge-fails h = let e : _≡_ {A = ℕ} 0 8 = ap (λ (t : Step). t .0 .number) (one-merge 3 [] [] [] [] _ _ h merge-refuses) in omega arith

@@ -110,6 +110,6 @@ module _ (D : ℕ) (a b w o : List ℕ) (r : Answer) (w' : List ℕ) where
       let (fits, e) = decided-passed (λ t. t .0 .number) (keeping w) (λ c. refl) (TooShort (length l) w ∷ []) (λ t. t ≡ (given (length l), stands l w)) (r, w') (refuses-numbered (λ n. omega arith), tt) z made in
       let of-list : WriteOf D l o s o' = subst (λ (k : List ℕ). WriteOf D k o s o') (left-front l w r w' e .is-front) q in
       let put : WritesOf (fileOf D l) o (s, o') =
-        decided-past (keeping o) (Faulty D l 1) [] (WritesOf (fileOf D l) o) (s, o') (good-passes D l 1 (x .good))
-        (decided-past (keeping o) (TooDeep deepest D) (Faulty D l 1 ∷ []) (WritesOf (fileOf D l) o) (s, o') (clean .0) of-list) in
+      decided-past (keeping o) (Faulty D l 1) [] (WritesOf (fileOf D l) o) (s, o') (good-passes D l 1 (x .good))
+      (decided-past (keeping o) (TooDeep deepest D) (Faulty D l 1 ∷ []) (WritesOf (fileOf D l) o) (s, o') (clean .0) of-list) in
       decided-next (leaving w o) its-tests [] (Joined D a b w o) (s, w', o') clean (l, x, decided-next (leaving w o) (TooShort (length l) w ∷ []) [] (Stored D a b w o l) (s, w', o') fits (put, ap (λ (t : Answer × List ℕ). t .1) e))

@@ -22,7 +22,11 @@ pub fn arrive(depth: u32, file: &[u8], m: Move, codes: &mut [u32], moved: &mut [
     }
     let other = found.depth;
     if other != depth {
-        return Answer { number: 1, place: 0, list: 0 };
+        return Answer {
+            number: 1,
+            place: 0,
+            list: 0,
+        };
     }
     let n = answer.place as usize;
     move_list(depth, &codes[..n], m, moved)
@@ -30,7 +34,13 @@ pub fn arrive(depth: u32, file: &[u8], m: Move, codes: &mut [u32], moved: &mut [
 
 // Our list and the one that arrived, joined to `joined`, and the joined list written to `bytes` as a stored file. Success tells its bytes.
 // Refused as `join` and `write` are.
-pub fn merge(depth: u32, ours: &[u32], theirs: &[u32], joined: &mut [u32], bytes: &mut [u8]) -> Answer
+pub fn merge(
+    depth: u32,
+    ours: &[u32],
+    theirs: &[u32],
+    joined: &mut [u32],
+    bytes: &mut [u8],
+) -> Answer
     ensures { λ r. ⌜ MergeOf depth (now (ours .entry)) (now (theirs .entry)) (now (joined .entry)) (now (bytes .entry)) (r, now (joined .exit), now (bytes .exit)) ⌝ }
 {
     let made = join(depth, ours, theirs, joined);

@@ -42,8 +42,8 @@ pub record ReadSuccess (b o : List ℕ) (r : Reading) (after : List ℕ) : Type 
 pub read-success : (b o : List ℕ) (r : Reading) (after : List ℕ) → ReadOf b o r after → r .answer .number ≡ 0 → ReadSuccess b o r after
 read-success b o r after d z =
     let ((unsound, (clean, _)), e) = decided-passed (λ t. t .0 .answer .number) (unread o) (λ x. refl) (Unsound b ∷ Faulty (depthOf b) (codes b) 1 ∷ TooShort (length (codes b)) o ∷ [])
-      (λ t. t ≡ (record { answer = given (length (codes b)); depth = depthOf b }, stands (codes b) o)) (r, after)
-      (unsound-numbered b, (faulty-numbered (depthOf b) (codes b) 1, (refuses-numbered (λ x. omega arith), tt))) z d in
+    (λ t. t ≡ (record { answer = given (length (codes b)); depth = depthOf b }, stands (codes b) o)) (r, after)
+    (unsound-numbered b, (faulty-numbered (depthOf b) (codes b) 1, (refuses-numbered (λ x. omega arith), tt))) z d in
     let left : Written (codes b) o (r .answer) after = ap (λ (t : Reading × List ℕ). (t .0 .answer, t .1)) e in
     record {
       is-sound = not-unsound b unsound;

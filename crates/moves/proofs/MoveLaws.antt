@@ -94,13 +94,13 @@ pub record MoveSuccess (D : ℕ) (l : List ℕ) (m : Move) (o : List ℕ) (r : A
 shift-success : (D : ℕ) (l : List ℕ) (d : ℕ → ℤ) (o : List ℕ) (r : Answer) (after : List ℕ) → ShiftOf D l d o (r, after) → r .number ≡ 0 → ListSuccess D (FromBlack D (Came D d) l) o r after
 shift-success D l d o r after s z =
     let (_, w) = decided-passed (λ t. t .0 .number) (keeping o) (λ x. refl) (Straying D (Came D d) l ∷ []) (WritesListOf D (FromBlack D (Came D d) l) o) (r, after)
-      (refuses-first-numbered (λ i x e. omega arith), tt) z s in
+    (refuses-first-numbered (λ i x e. omega arith), tt) z s in
     list-success D (FromBlack D (Came D d) l) o r after w z
 
 pub move-success : (D : ℕ) (l : List ℕ) (m : Move) (o : List ℕ) (r : Answer) (after : List ℕ) → MoveOf D l m o r after → r .number ≡ 0 → MoveSuccess D l m o r after
 move-success D l m o r after d z =
     let ((deep, (first, _)), (i, j, k, b, s)) = decided-passed (λ t. t .0 .number) (keeping o) (λ x. refl) (TooDeep deepest D ∷ Faulty D l 1 ∷ moveTests m) (ByVoxels D l m o) (r, after)
-      (refuses-numbered (λ x. omega arith), (faulty-numbered D l 1, numbered m)) z d in
+    (refuses-numbered (λ x. omega arith), (faulty-numbered D l 1, numbered m)) z d in
     record { shallow = shallow-enough deep; good = not-faulty D l 1 first; by = axes i j k; becomes = b; result = shift-success D l (axes i j k) o r after s z }
   where
     numbered : (m : Move) → Numbered (moveTests m)

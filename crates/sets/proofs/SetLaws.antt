@@ -32,7 +32,7 @@ pub pair-success : (D : ℕ) (a b : List ℕ) (P : ℕ → Type 0) (o : List ℕ
     → Decided (keeping o) (TooDeep deepest D ∷ Faulty D a 1 ∷ Faulty D b 2 ∷ []) (WritesListOf D P o) (r, after) → r .number ≡ 0 → PairSuccess D a b P o r after
 pair-success D a b P o r after d z =
     let ((deep, (first, (second, _))), w) = decided-passed (λ s. s .0 .number) (keeping o) (λ x. refl) (TooDeep deepest D ∷ Faulty D a 1 ∷ Faulty D b 2 ∷ []) (WritesListOf D P o) (r, after)
-      (refuses-numbered (λ x. omega arith), (faulty-numbered D a 1, (faulty-numbered D b 2, tt))) z d in
+    (refuses-numbered (λ x. omega arith), (faulty-numbered D a 1, (faulty-numbered D b 2, tt))) z d in
     record { shallow = shallow-enough deep; good-first = not-faulty D a 1 first; good-second = not-faulty D b 2 second; result = list-success D P o r after w z }
 
 -- of the set calls

@@ -82,15 +82,27 @@ fn show_damaged(file: &mut [u8]) {
 }
 
 fn main() {
-    let mut ours = [0u8; BYTES];
-    let mut theirs = [0u8; BYTES];
-    let n = load(1, &mut ours);
-    let k = load(2, &mut theirs);
-    show(b"our record\n", &ours[..n]);
-    show(b"the record that arrived\n", &theirs[..k]);
+    let mut bytes = [0u8; BYTES];
+    let mut arrived = [0u8; BYTES];
+    let n = load(1, &mut bytes);
+    let k = load(2, &mut arrived);
+    let ours = &bytes[..n];
+    let theirs = &arrived[..k];
+    show(b"our record\n", ours);
+    show(b"the record that arrived\n", theirs);
     // their origin lies 4 voxels to the east and 2 to the north of ours
-    take_in(b"theirs moved by 4 2 0", &ours[..n], &theirs[..k], Move::Voxels(4, 2, 0));
+    take_in(
+        b"theirs moved by 4 2 0",
+        ours,
+        theirs,
+        Move::Voxels(4, 2, 0),
+    );
     // one voxel further it would leave the root
-    take_in(b"theirs moved by 5 2 0", &ours[..n], &theirs[..k], Move::Voxels(5, 2, 0));
-    show_damaged(&mut theirs[..k]);
+    take_in(
+        b"theirs moved by 5 2 0",
+        ours,
+        theirs,
+        Move::Voxels(5, 2, 0),
+    );
+    show_damaged(&mut arrived[..k]);
 }
