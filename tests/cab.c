@@ -68,6 +68,14 @@ static void both(const char *what, size_t len, uint32_t checked, uint32_t held, 
   same(what, cab_stored_volume(file, len), measured, volume);
 }
 
+/* the names of cab.h are the numbers of document 01 */
+static void names(void) {
+  const uint32_t named[] = {CAB_OK, CAB_DEPTH, CAB_LEAF_NOT_PROPER, CAB_LEAF_EARLY, CAB_EIGHT_SIBLINGS, CAB_ARGUMENT, CAB_OUTSIDE, CAB_BAD_BLOCK};
+  const uint32_t numbers[] = {0, 1, 2, 3, 4, 6, 7, 9};
+  for (size_t i = 0; i < sizeof numbers / sizeof *numbers; i++)
+    same("a name", named[i], 0, numbers[i]);
+}
+
 static void neighbours(void) {
   same("r742 by (-1, +1, +1)", cab_neighbour(3, 994, -1, 1, 1), 0, 957);
   same("r0 by x - 1", cab_neighbour(3, 8, -1, 0, 0), 7, 0);
@@ -112,6 +120,7 @@ static void stored(void) {
 }
 
 int main(void) {
+  names();
   neighbours();
   stored();
   printf("%d passed, %d failed\n", passed, failed);
