@@ -1,16 +1,17 @@
 -- What the tests of the code say of a coordinate, and what follows for its answer.
---     reached, beyond      an a above zero is below 2^32, and is measured, or not, and is bad
+--     reached, beyond      an a above zero is below a power of two up to 2^32, and is measured, or not below 2^32, and is bad
 --     measured-rounded     the answer that the measured size gives
 --     negated, neg-neg     -d, for a d below zero
 --     not-a-number, is-zero     a NaN is bad, and what is neither above nor below zero, and no NaN, gives 0
 -- Assumes nothing.
 use mathlib.Core.Path.{_≡_, refl, sym, _∙_, subst}
-use Prim.Native.Nat.{ℕ, _+_, _*_, _^_, _<_}
-use native.Mathlib.Nat.{zero-mul}
+use Prim.Native.Nat.{ℕ, _+_, _*_, _^_, _≤_, _<_}
+use native.Mathlib.Nat.{zero-mul, mul-le-mul-right}
 use native.Mathlib.Omega.{arith}
 use mathlib.Core.Bool.{Bool, true, false, true≢false, false≢true}
 use lib.IntN.{ℤ, pos}
 use lib.Dec.{T, ltb→lt, lt→ltb}
+use lib.Pow.{pow-mono}
 use borrow.Author.Tests.{ltb-true, ltb-false, le-ltb}
 use lib.Ieee.{Float, nan, inf, fin, up, down, lt, ne, neg}
 use lib.Ieee.Fits.{down-pos}
@@ -31,15 +32,16 @@ abbrev pub limit : Float
 limit = fin false 1 (pos 32)
 
 -- ---- a coordinate's size a, above zero
-pub reached : (a : Float) → T (lt nought a) → lt a limit ≡ true → T (positive a) × (num a < 2 ^ 32 * den a)
+pub reached : {k : ℕ} (a : Float) → T (lt nought a) → lt a (fin false 1 (pos k)) ≡ true → k ≤ 32 → T (positive a) × (num a < 2 ^ 32 * den a)
 unfolding lt
-reached nan p q = absurd p
-reached (inf true) p q = absurd p
-reached (inf false) p q = absurd (false≢true q)
-reached (fin true m e) p q = absurd p
-reached (fin false m e) p q =
+reached nan p q l = absurd p
+reached (inf true) p q l = absurd p
+reached (inf false) p q l = absurd (false≢true q)
+reached (fin true m e) p q l = absurd p
+reached {k} (fin false m e) p q l =
     let g : 0 * 1 * down e < m * up e * 1 = ltb→lt (0 * 1 * down e) (m * up e * 1) p in
-    let h = ltb-true (m * up e * 1) (1 * 2 ^ 32 * down e) q in
+    let h = ltb-true (m * up e * 1) (1 * 2 ^ k * down e) q in
+    let w : 2 ^ k * down e ≤ 2 ^ 32 * down e = mul-le-mul-right (down e) (pow-mono l) in
     (lt→ltb 0 m (first-pos m (up e) (omega arith)), omega arith)
 
 -- a sign given to it

@@ -1,5 +1,5 @@
--- What a reader of the public contracts reads, in this order.
+-- What a reader of the public contract reads.
 pub mod Metres
+-- the vocabulary of private and inner functions
 pub mod Taken
--- the vocabulary of private functions
 pub mod Inner

@@ -1,4 +1,4 @@
--- What the enum `Taken` says of a move in metres: document 01's number, place and list, or the whole voxels, for each of its cases. Definitions only.
+-- INNER: for the contract of `in_voxels`. What the enum `Taken` says of a move in metres: document 01's number, place and list, or the whole voxels, for each of its cases. Definitions only.
 use mathlib.Core.Path.{_≡_}
 use mathlib.Core.Logic.{_⊎_, inl, inr}
 use lib.IntN.{ℤ}

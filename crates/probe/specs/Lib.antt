@@ -1,1 +1,2 @@
+-- the vocabulary of the calls for tests from outside: none is for a host
 pub mod Probe

@@ -3,12 +3,14 @@ use crate::checker::check_blocks;
 use crate::inner::words::code_at;
 use crate::inner::words::word_at;
 use cells::Answer;
+use cells::inner::refusal;
 use records::inner::Walk;
 use records::inner::begin;
 use records::inner::step;
 use records::inner::told;
 ghost use mathlib.Core.Path.{_≡_};
 ghost use lib.ListN.{length};
+ghost use Rattle.cells.specs.Answer.{answer};
 ghost use Rattle.records.specs.Walk.{Walked};
 ghost use Rattle.blocks.specs.Block.{depthOf, codes};
 ghost use Rattle.blocks.specs.Inner.{Sound, HoldingOf};
@@ -38,10 +40,11 @@ pub struct Holding {
     pub voxels: u32,
 }
 
-// A refusal.
-fn nothing_held(answer: Answer) -> Holding
-    ensures { λ r. ⌜ r .answer ≡ answer ⌝ }
+// A refusal by its number, place and list.
+fn nothing_held(number: u32, place: u64, list: u32) -> Holding
+    ensures { λ r. ⌜ r .answer ≡ answer number place list ⌝ }
 {
+    let answer = refusal(number, place, list);
     Holding {
         answer,
         depth: 0,
@@ -56,7 +59,7 @@ pub fn holding_of(bytes: &[u8]) -> Holding
     let answer = check_blocks(bytes);
     let number = answer.number;
     if number != 0 {
-        return nothing_held(answer);
+        return nothing_held(number, answer.place, answer.list);
     }
     let depth = word_at(bytes, 0, 2);
     let n = answer.place as usize;
@@ -64,7 +67,7 @@ pub fn holding_of(bytes: &[u8]) -> Holding
     let judged = told(walk, 1);
     let fault = judged.number;
     if fault != 0 {
-        return nothing_held(judged);
+        return nothing_held(fault, judged.place, judged.list);
     }
     Holding {
         answer,
