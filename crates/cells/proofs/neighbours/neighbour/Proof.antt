@@ -97,7 +97,7 @@ module _ (l : tie.At-loop Inv-loop μ-loop) where
 returns-4 : tie.Need-returns-4 Inv-loop μ-loop
 returns-4 c =
     let at-loop = c .before .before .before in
-    let e = ended (at-loop .loop .inv) (c .before .if4 .taken) in
+    let e = ended (at-loop .loop .inv) (omega (arith, c .before .if4 .taken)) in
     let walking = at-direction at-loop in
     past walking _
     (inr (

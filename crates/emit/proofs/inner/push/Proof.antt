@@ -22,7 +22,7 @@ returns-2 c = λ P colour.
     let a = start .args in
     let h = start .pre .ready in
     record {
-      ready = record { run = omega (arith, h .run, h .past, start .pre .some); past = omega arith; few = h .few; root = start .pre .root };
+      ready = record { run = omega (arith, h .run, h .past, start .pre .some); past = omega arith; few = omega (arith, h .few, h .run, c .if2 .taken); root = start .pre .root };
       emits = λ o e.
           emit-black (a .depth) P o (a .out .now) (a .from) (a .to) (a .r .from) (a .r .at)
           (λ v x y. colour v x y ∙ not-false (a .black) (c .before .before .if1 .left))
