@@ -82,6 +82,14 @@ returns c =
     let F = first-strays (a .depth) (d at-first-stray) (p at-first-stray) (split at-first-stray) (a .list .now) (start at-first-stray .pre .1) (stops-first (at-first-stray .first-stray .ensures) (at-if1 .if1 .taken)) in
     inl (_, (at-first-stray .first-stray .result, F, refl), ap (keeping (a .out .now)) (c .refusal .ensures))
 
+-- no room: the first pass wrote nothing
+returns-2 : tie.Need-returns-2
+returns-2 c =
+    let counted = c .before .before .before .before in
+    let shift = counted .before .before in
+    let else1 = shift .before in
+    next else1 (crowded _ _ _ (voxels else1 (shift .backwards .result) (shift .backwards .ensures)) (counted .shift-list .ensures) (c .refusal2 .ensures) (c .before .if2 .taken))
+
 returns-3 : tie.Need-returns-3
 returns-3 c =
     let room = c .before .before .before .before .before in
@@ -97,10 +105,6 @@ move-whole-spec =
     (λ c κs. search needs) (λ c κs. search needs) (λ c κs. search needs) (λ c κs. search needs) (λ c κs. search needs)
     returns
     (λ c κs. search needs) (λ c. search needs) (λ c. search needs) (λ c κs. search needs) (λ c κs. search needs) (λ c. search needs)
-    (λ c.
-    let counted = c .before .before .before .before in
-    let shift = counted .before .before in
-    let else1 = shift .before in
-    next else1 (crowded _ _ _ (voxels else1 (shift .backwards .result) (shift .backwards .ensures)) (counted .shift-list .ensures) (c .refusal2 .ensures) (c .before .if2 .taken)))
+    returns-2
     (λ c κs. search needs) (λ c κs. search needs) (λ c. search needs)
     returns-3)

@@ -51,6 +51,13 @@ module _ (c : tie.Else1) where
   told : {r : Answer} {after : List ℕ} → WritesOf (t at-volume) (o at-volume) (r, after) → TextOf (start at-volume .args .depth) (l at-volume) (o at-volume) r after
   told w = list-written (t at-volume) (o at-volume) (start at-volume .args .depth) (l at-volume) _ (at-volume .volume .result) (at-volume .volume .ensures) none _ _ w
 
+-- no room: the first pass put nothing
+returns-2 : tie.Need-returns-2
+returns-2 c =
+    let at-put-listing = c .before .before .before .before in
+    let else1 = at-put-listing .before .before in
+    told else1 (text-short (t (at-volume else1)) (o (at-volume else1)) _ (at-put-listing .put-listing .result) (listed else1 (at-put-listing .put-listing .ensures)) (c .before .if2 .taken) _ (c .refusal .ensures))
+
 returns-3 : tie.Need-returns-3
 returns-3 c =
     let at-put-listing2 = c .before .before .before in
@@ -70,10 +77,7 @@ list-text-spec =
     (λ c. search needs) (λ c. search needs)
     (λ c κs. let k = good (c .before) in (k .shallow, k .good .ordered, k .few))
     (λ c κs. search needs) (λ c. search needs)
-    (λ c.
-    let at-put-listing = c .before .before .before .before in
-    let else1 = at-put-listing .before .before in
-    told else1 (text-short (t (at-volume else1)) (o (at-volume else1)) _ (at-put-listing .put-listing .result) (listed else1 (at-put-listing .put-listing .ensures)) (c .before .if2 .taken) _ (c .refusal .ensures)))
+    returns-2
     (λ c. search needs)
     (λ c. sym (length-take-le _ _ (c .before .if2 .left)))
     (λ c κs. let k = good (c .before .before .before .before .before .before) in (k .shallow, k .good .ordered, k .few))

@@ -14,7 +14,7 @@ right-count-spec =
     (tie.spec
     (λ c. search needs)
     (λ c. let a = c .before .args in rw (rightCount, lt-ltb (a .i + 1) (a .n) (c .if1 .taken)))
-    (λ c. let a = c .before .before .args in rw (rightCount, le-ltb (a .i + 1) (a .n) (c .before .if1 .left), lt-leb (a .k) blockCodes (c .if2 .taken)))
+    (λ c. let a = c .before .before .args in rw (rightCount, le-ltb (a .i + 1) (a .n) (c .before .if1 .left), lt-leb (a .k) blockCodes (omega (arith, c .if2 .taken))))
     (λ c.
     let a = c .before .before .before .args in
     rw (rightCount, le-ltb (a .i + 1) (a .n) (c .before .before .if1 .left), le-leb (a .k) blockCodes (c .before .if2 .left), le-leb 1 (a .k) (c .if3 .taken)))

@@ -16,7 +16,7 @@ use Rattle.blocks.proofs.inner.soundness.unused_zero.Statement.{stateme
 use Rattle.blocks.proofs.inner.soundness.unused_zero.Tie as tie
 
 abbrev Inv-loop : tie.InvT-loop
-Inv-loop bytes i k w₀ w = (w ≤ 126) × (4 + k ≤ w) × ((v : ℕ) → v < w → 4 + k ≤ v → eqb (word bytes i v) 0 ≡ true)
+Inv-loop bytes i k w₀ w = (4 + k ≤ w) × ((v : ℕ) → v < w → 4 + k ≤ v → eqb (word bytes i v) 0 ≡ true) × (w ≤ 126)
 
 abbrev μ-loop : tie.MeasureT-loop
 μ-loop bytes i k w₀ w = 126 - w
@@ -39,18 +39,18 @@ unused-zero-spec =
     (tie.spec
     Inv-loop μ-loop
     (λ c. search needs)
-    (λ c. (search needs, search needs, λ v a b. absurd (omega arith)))
+    (λ c. (search needs, (λ v a b. absurd (omega arith)), search needs))
     (λ c κs. search needs)
     (λ c.
     let at-word-at = c .before in
     let k = start at-word-at .args .k in
-    sym (refuted (allFrom (zero-at at-word-at) (4 + k) (blockCodes - k)) (λ t. c .if1 .taken (at-word-at .word-at .ensures ∙ eqb-true _ 0 (all-true (zero-at at-word-at) (4 + k) (blockCodes - k) t (at-loop at-word-at .loop .w) (at-loop at-word-at .loop .inv .1) (omega arith))))))
+    sym (refuted (allFrom (zero-at at-word-at) (4 + k) (blockCodes - k)) (λ t. c .if1 .taken (at-word-at .word-at .ensures ∙ eqb-true _ 0 (all-true (zero-at at-word-at) (4 + k) (blockCodes - k) t (at-loop at-word-at .loop .w) (at-loop at-word-at .loop .inv .0) (omega arith))))))
     (λ c. search needs) (λ c. search needs)
     (λ c.
     let at-word-at = c .before in
     let z : at-word-at .word-at .result ≡ 0 = search needs in
-    (search needs, search needs, below-more _ _ (at-loop at-word-at .loop .inv .2) (λ _. eq-eqb _ 0 (sym (at-word-at .word-at .ensures) ∙ z))))
+    (search needs, below-more _ _ (at-loop at-word-at .loop .inv .1) (λ _. eq-eqb _ 0 (sym (at-word-at .word-at .ensures) ∙ z)), search needs))
     (λ c.
     let at-loop = c .before in
     let a = at-loop .before .before .args in
-    sym (all-made (λ w. eqb (word (a .bytes .now) (a .i) w) 0) (4 + a .k) (blockCodes - a .k) (λ v lo hi. at-loop .loop .inv .2 v (omega arith) lo))))
+    sym (all-made (λ w. eqb (word (a .bytes .now) (a .i) w) 0) (4 + a .k) (blockCodes - a .k) (λ v lo hi. at-loop .loop .inv .1 v (omega arith) lo))))
