@@ -7,8 +7,7 @@ use Prim.Native.Nat.{ℕ}
 use native.Mathlib.Omega.{arith}
 use lib.IntN.{pos}
 use Rattle.cells.specs.Answer.{answer, given}
-use Rattle.cells.specs.declared.Answer.{Answer}
-use Rattle.cells.proofs.Decisions.{passes, passes-first, deep-enough, opening-known}
+use Rattle.cells.proofs.Decisions.{passes, passes-first, opening-known}
 use Rattle.cells.proofs.Bools.{clash}
 use Rattle.records.specs.Record.{black, Good, ListOf}
 use Rattle.records.proofs.First.{good-passes}
@@ -27,11 +26,11 @@ use Rattle.blocks.specs.declared.Reading.{Reading}
 use Rattle.blocks.proofs.Files.{file-length}
 use Rattle.blocks.proofs.Theorems.{reads-file}
 use Rattle.arrivals.specs.Arrivals.{Step, ArriveOf, MergeOf}
-use Rattle.arrivals.proofs.Steps.{other-depth, moved, written}
+use Rattle.arrivals.proofs.Steps.{arrive-other, arrive-moved, merge-written}
 use Rattle.arrivals.proofs.Theorems.{one-arrive, one-merge}
 
 -- the empty record of depth 3, its file, and a move to the east
-good-none : Good 3 []
+pub good-none : Good 3 []
 good-none = opening-known (checks 3 []) (given 0) (inr (passes (λ h. omega arith), inr (passes-first (λ i h. absurd (omega arith)), refl))) refl .good
 
 -- it is the list of any set without a voxel
@@ -66,11 +65,11 @@ moves-none =
     (pos 1, pos 0, pos 0, (λ a h. refl), inr (passes-first (λ i h. absurd (omega arith)), ([], none-listed _ (λ v (u, e, _). clash e refl), writes-fitting [] [] (omega arith))))
 
 pub arrive-holds : ArriveOf 3 stored east [] [] (given 0, [], [])
-arrive-holds = moved 3 stored east [] [] reading [] reads-none refl refl (given 0) [] moves-none
+arrive-holds = arrive-moved 3 stored east [] [] reading [] reads-none refl refl (given 0) [] moves-none
 
 -- at another depth it is refused
 pub arrive-other-depth : ArriveOf 2 stored east [] [] (answer 1 0 0, [], [])
-arrive-other-depth = other-depth 2 stored east [] [] reading [] reads-none refl (λ (e : _≡_ {A = ℕ} 3 2). omega arith)
+arrive-other-depth = arrive-other 2 stored east [] [] reading [] reads-none refl (λ (e : _≡_ {A = ℕ} 3 2). omega arith)
 
 pub arrive-fails : ArriveOf 2 stored east [] [] (given 0, [], []) → ⊥
 arrive-fails h = let e : _≡_ {A = ℕ} 0 1 = ap (λ (t : Step). t .0 .number) (one-arrive 2 stored east [] [] _ _ h arrive-other-depth) in omega arith
@@ -90,7 +89,7 @@ writes-none =
     inr (passes (λ h. omega arith), inr (good-passes 3 [] 1 good-none, short))
 
 pub merge-refuses : MergeOf 3 [] [] [] [] (answer 8 512 0, [], [])
-merge-refuses = written 3 [] [] [] [] (given 0) [] joins-none refl (answer 8 512 0) [] writes-none
+merge-refuses = merge-written 3 [] [] [] [] (given 0) [] joins-none refl (answer 8 512 0) [] writes-none
 
 pub merge-fails : MergeOf 3 [] [] [] [] (given 0, [], []) → ⊥
 merge-fails h = let e : _≡_ {A = ℕ} 0 8 = ap (λ (t : Step). t .0 .number) (one-merge 3 [] [] [] [] _ _ h merge-refuses) in omega arith

@@ -7,15 +7,12 @@ use Prim.Native.Nat.{ℕ, _^_, _<_}
 use native.Mathlib.Omega.{arith}
 use lib.IntN.{ℤ}
 use lib.ListN.{length, take}
-use Rattle.cells.specs.Answer.{Test, Decided, deepest, TooDeep}
 use Rattle.cells.specs.Place.{Came}
 use Rattle.cells.specs.declared.Answer.{Answer}
 use Rattle.cells.proofs.Decisions.{One, one-refuses, one-refuses-first, one-decided, refuses-numbered, decided-passed}
 use Rattle.records.specs.Record.{black, ListOf}
-use Rattle.records.specs.Fault.{Faulty}
 use Rattle.records.specs.Carried.{FromBlack}
-use Rattle.records.specs.Writing.{stands, TooShort, WritesOf}
-use Rattle.records.proofs.First.{faulty-numbered}
+use Rattle.records.specs.Writing.{stands, TooShort}
 use Rattle.records.proofs.OneList.{one-list, list-same}
 use Rattle.records.proofs.Writing.{one-writes}
 use Rattle.records.proofs.Fronts.{Front, left-front, writes-success}
@@ -23,29 +20,27 @@ use Rattle.sets.specs.Sets.{InResult}
 use Rattle.sets.specs.declared.Op.the-variants.{Join}
 use Rattle.metres.specs.Metres.{Becomes}
 use Rattle.metres.specs.declared.Move.{Move}
-use Rattle.moves.specs.Moves.{MoveOf}
 use Rattle.moves.proofs.MoveLaws.{one-move, MoveSuccess, move-success}
 use Rattle.blocks.specs.Block.{depthOf, codes}
 use Rattle.blocks.specs.File.{fileOf}
-use Rattle.blocks.specs.Calls.{Unsound}
-use Rattle.blocks.proofs.Sound.{one-unsound, unsound-numbered}
+use Rattle.blocks.proofs.Sound.{one-unsound}
 use Rattle.arrivals.specs.Arrivals.{Step, leaving, OtherDepth, ArriveOf, MergeOf}
-use Rattle.arrivals.proofs.Steps.{of-read, Moved, Arrived, read-numbered, of-join, Stored, Joined, join-numbered}
+use Rattle.arrivals.proofs.Steps.{of-read, MovedFrom, Arrived, read-numbered, of-join, StoredAs, JoinedTo, join-numbered}
 
 -- what a step leaves, from its answer with the result's buffer, and the buffer for work
-abbrev step : Answer × List ℕ → List ℕ → Step
-step t w = (t .0, w, t .1)
+abbrev as-step : Answer × List ℕ → List ℕ → Step
+as-step t w = (t .0, w, t .1)
 
 -- ---- arrive
 
 module _ (D : ℕ) (f : List ℕ) (m : Move) (w o : List ℕ) where
-  one-moved : One (Moved D f m w o)
-  one-moved r s (p, e) (q, g) = ap₂ step (one-move D (codes f) m o (r .0, r .2) (s .0, s .2) p q) (e ∙ sym g)
+  one-moved : One (MovedFrom D f m w o)
+  one-moved r s (p, e) (q, g) = ap₂ as-step (one-move D (codes f) m o (r .0, r .2) (s .0, s .2) p q) (e ∙ sym g)
 
   pub one-arrive : One (ArriveOf D f m w o)
   one-arrive =
       one-decided (leaving w o) (of-read D f m w o) _ (one-unsound f, (one-refuses-first, (one-refuses, tt)))
-      (one-decided (leaving (stands (codes f) w) o) (OtherDepth D f ∷ []) (Moved D f m w o) (one-refuses, tt) one-moved)
+      (one-decided (leaving (stands (codes f) w) o) (OtherDepth D f ∷ []) (MovedFrom D f m w o) (one-refuses, tt) one-moved)
 
   -- the file is of our depth, and its list was moved
   pub record ArriveSuccess (r : Answer) (w' o' : List ℕ) : Type 0 where
@@ -56,7 +51,7 @@ module _ (D : ℕ) (f : List ℕ) (m : Move) (w o : List ℕ) where
   pub arrive-success : (r : Answer) (w' o' : List ℕ) → ArriveOf D f m w o (r, w', o') → r .number ≡ 0 → ArriveSuccess r w' o'
   arrive-success r w' o' d z =
       let (_, rest) = decided-passed (λ t. t .0 .number) (leaving w o) (λ a. refl) (of-read D f m w o) (Arrived D f m w o) (r, w', o') (read-numbered D f m w o) z d in
-      let ((same, _), (moved, work)) = decided-passed (λ t. t .0 .number) (leaving (stands (codes f) w) o) (λ a. refl) (OtherDepth D f ∷ []) (Moved D f m w o) (r, w', o') (refuses-numbered (λ e. omega arith), tt) z rest in
+      let ((same, _), (moved, work)) = decided-passed (λ t. t .0 .number) (leaving (stands (codes f) w) o) (λ a. refl) (OtherDepth D f ∷ []) (MovedFrom D f m w o) (r, w', o') (refuses-numbered (λ e. omega arith), tt) z rest in
       let not-less : depthOf f < D → ⊥ = λ h. same _ ((λ e. omega arith), refl) in
       let not-more : D < depthOf f → ⊥ = λ h. same _ ((λ e. omega arith), refl) in
       record { same-depth = omega arith; work = work; move = move-success D (codes f) m o r o' moved z }
@@ -64,15 +59,15 @@ module _ (D : ℕ) (f : List ℕ) (m : Move) (w o : List ℕ) where
 -- ---- merge
 
 module _ (D : ℕ) (a b w o : List ℕ) where
-  one-stored : (l : List ℕ) → One (Stored D a b w o l)
-  one-stored l r s (p, e) (q, g) = ap₂ step (one-writes (fileOf D l) o (r .0, r .2) (s .0, s .2) p q) (e ∙ sym g)
+  one-stored : (l : List ℕ) → One (StoredAs D a b w o l)
+  one-stored l r s (p, e) (q, g) = ap₂ as-step (one-writes (fileOf D l) o (r .0, r .2) (s .0, s .2) p q) (e ∙ sym g)
 
-  one-joined : One (Joined D a b w o)
+  one-joined : One (JoinedTo D a b w o)
   one-joined r s (l, x, p) (k, y, q) =
-      one-decided (leaving w o) (TooShort (length l) w ∷ []) (Stored D a b w o l) (one-refuses, tt) (one-stored l) r s p (rw (one-list D (InResult Join D a b) l k x y) q)
+      one-decided (leaving w o) (TooShort (length l) w ∷ []) (StoredAs D a b w o l) (one-refuses, tt) (one-stored l) r s p (rw (one-list D (InResult Join D a b) l k x y) q)
 
   pub one-merge : One (MergeOf D a b w o)
-  one-merge = one-decided (leaving w o) (of-join D a b w o) (Joined D a b w o) (one-refuses, (one-refuses-first, (one-refuses-first, tt))) one-joined
+  one-merge = one-decided (leaving w o) (of-join D a b w o) (JoinedTo D a b w o) (one-refuses, (one-refuses-first, (one-refuses-first, tt))) one-joined
 
   -- the joined list, and its file
   pub record MergeSuccess (r : Answer) (w' o' : List ℕ) : Type 0 where
@@ -83,8 +78,8 @@ module _ (D : ℕ) (a b w o : List ℕ) where
 
   pub merge-success : (r : Answer) (w' o' : List ℕ) → MergeOf D a b w o (r, w', o') → r .number ≡ 0 → MergeSuccess r w' o'
   merge-success r w' o' d z =
-      let (_, (l, x, p)) = decided-passed (λ t. t .0 .number) (leaving w o) (λ c. refl) (of-join D a b w o) (Joined D a b w o) (r, w', o') (join-numbered D a b w o) z d in
-      let (_, (stored, work)) = decided-passed (λ t. t .0 .number) (leaving w o) (λ c. refl) (TooShort (length l) w ∷ []) (Stored D a b w o l) (r, w', o') (refuses-numbered (λ e. omega arith), tt) z p in
+      let (_, (l, x, p)) = decided-passed (λ t. t .0 .number) (leaving w o) (λ c. refl) (of-join D a b w o) (JoinedTo D a b w o) (r, w', o') (join-numbered D a b w o) z d in
+      let (_, (stored, work)) = decided-passed (λ t. t .0 .number) (leaving w o) (λ c. refl) (TooShort (length l) w ∷ []) (StoredAs D a b w o l) (r, w', o') (refuses-numbered (λ e. omega arith), tt) z p in
       record { joined = l; is-list = x; work = work; front = left-front (fileOf D l) o r o' (writes-success (fileOf D l) o r o' stored z) }
 
 -- ---- both: a file f arrives by the move m, and is merged with our list a

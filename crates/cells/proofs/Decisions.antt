@@ -90,11 +90,11 @@ decided-first wide refuse (F ∷ Fs) Gs P Q r to (inl (a, t, e)) = inl (a, t, ap
 decided-first wide refuse (F ∷ Fs) Gs P Q r to (inr (n, d)) = inr (n, decided-first wide refuse Fs Gs P Q r to d)
 
 -- `number` reads the number off what a call leaves
-abbrev pub Reads : {R : Type 0} → (R → ℕ) → (Answer → R) → Type 0
-Reads number refuse = (a : Answer) → number (refuse a) ≡ a .number
+abbrev pub TellsNumber : {R : Type 0} → (R → ℕ) → (Answer → R) → Type 0
+TellsNumber number refuse = (a : Answer) → number (refuse a) ≡ a .number
 
 -- where the number is 0, each test of the first row passes, and P holds
-pub decided-passed : {R : Type 0} (number : R → ℕ) (refuse : Answer → R) → Reads number refuse → (Fs : List Test) (P : R → Type 0) (r : R)
+pub decided-passed : {R : Type 0} (number : R → ℕ) (refuse : Answer → R) → TellsNumber number refuse → (Fs : List Test) (P : R → Type 0) (r : R)
     → Numbered Fs → number r ≡ 0 → Decided refuse Fs P r → Passed Fs × P r
 decided-passed number refuse reads [] P r of-none z d = (tt, d)
 decided-passed number refuse reads (F ∷ Fs) P r (of-f, of-fs) z (inl (a, t, e)) = absurd (of-f a t (sym (reads a) ∙ ap number (sym e) ∙ z))

@@ -24,7 +24,7 @@ use Rattle.blocks.specs.Calls.{Unsound, unread, ReadOf, WriteOf}
 use Rattle.blocks.specs.declared.Reading.{Reading}
 use Rattle.text.specs.Text.{textOf, TextOf, refusedText, RefusedOf}
 use Rattle.arrivals.specs.Arrivals.{Step, leaving, OtherDepth, ArriveOf, MergeOf}
-use Rattle.arrivals.proofs.Steps.{of-read, Moved, Arrived, of-join, Stored, Joined}
+use Rattle.arrivals.proofs.Steps.{of-read, MovedFrom, Arrived, of-join, StoredAs, JoinedTo}
 use Rattle.demands.specs.Laws.{Kept, Keeps}
 use Rattle.demands.proofs.Outcomes.{Left}
 
@@ -97,9 +97,9 @@ OfStep o t = Kept o (t .0) (t .2)
 pub arrive-keeps : (D : ℕ) (f : List ℕ) (m : Move) (w w' : List ℕ) → Keeps (λ o r o'. ArriveOf D f m w o (r, w', o'))
 arrive-keeps D f m w w' o o' r d =
     decided-all (leaving w o) (of-read D f m w o) (Arrived D f m w o) (OfStep o) (r, w', o') (kept-refused o)
-    (decided-all (leaving (stands (codes f) w) o) (OtherDepth D f ∷ []) (Moved D f m w o) (OfStep o) (r, w', o') (kept-refused o) (λ (moved, _). move-keeps D (codes f) m o o' r moved)) d
+    (decided-all (leaving (stands (codes f) w) o) (OtherDepth D f ∷ []) (MovedFrom D f m w o) (OfStep o) (r, w', o') (kept-refused o) (λ (moved, _). move-keeps D (codes f) m o o' r moved)) d
 
 pub merge-keeps : (D : ℕ) (a b w w' : List ℕ) → Keeps (λ o r o'. MergeOf D a b w o (r, w', o'))
 merge-keeps D a b w w' o o' r d =
-    decided-all (leaving w o) (of-join D a b w o) (Joined D a b w o) (OfStep o) (r, w', o') (kept-refused o)
-    (λ (l, _, s). decided-all (leaving w o) (TooShort (length l) w ∷ []) (Stored D a b w o l) (OfStep o) (r, w', o') (kept-refused o) (λ (stored, _). writes-keeps o (r, o') (fileOf D l) stored) s) d
+    decided-all (leaving w o) (of-join D a b w o) (JoinedTo D a b w o) (OfStep o) (r, w', o') (kept-refused o)
+    (λ (l, _, s). decided-all (leaving w o) (TooShort (length l) w ∷ []) (StoredAs D a b w o l) (OfStep o) (r, w', o') (kept-refused o) (λ (stored, _). writes-keeps o (r, o') (fileOf D l) stored) s) d

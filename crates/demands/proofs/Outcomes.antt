@@ -1,20 +1,19 @@
 -- What the answer of a call that writes a list tells of its inputs and of what it wrote. Assumes nothing.
-use mathlib.Core.Path.{_≡_, refl, sym, ap, _∙_, subst⁻¹}
+use mathlib.Core.Path.{_≡_, sym, ap, _∙_, subst⁻¹}
 use mathlib.Core.Logic.{_⊎_, inl, inr, _↔_}
 use mathlib.Core.Bool.{true}
 use mathlib.Core.List.{List}
 use Prim.Native.Nat.{ℕ, _^_, _<_, _≤_}
 use native.Mathlib.Omega.{arith}
 use lib.IntN.{ℤ}
-use lib.ListN.{length, getD, drop}
-use lib.Seq.{take-append-seam}
-use Rattle.cells.specs.Answer.{answer, given, deepest, TooDeep}
+use lib.ListN.{length, getD}
+use Rattle.cells.specs.Answer.{given, deepest, TooDeep}
 use Rattle.cells.specs.Place.{axes, Came}
 use Rattle.cells.specs.declared.Answer.{Answer}
-use Rattle.cells.proofs.Decisions.{passes, deep-enough, shallow-enough, refuses-numbered}
+use Rattle.cells.proofs.Decisions.{passes, deep-enough}
 use Rattle.records.specs.Record.{black, Good, ListOf}
 use Rattle.records.specs.Carried.{FromBlack}
-use Rattle.records.proofs.First.{faulty-numbered, not-faulty, good-passes}
+use Rattle.records.proofs.First.{good-passes}
 use Rattle.records.proofs.OneList.{one-list, list-same}
 use Rattle.records.proofs.Carrying.{Carrying, displacing, Accepted}
 use Rattle.records.specs.Writing.{WritesListOf}

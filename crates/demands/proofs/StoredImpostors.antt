@@ -8,9 +8,6 @@ use native.Mathlib.Omega.{arith}
 use lib.ListN.{length, getD, drop, replicate, length-replicate, List·getD-append}
 use Rattle.cells.specs.Answer.{answer, given}
 use Rattle.cells.specs.declared.Answer.{Answer}
-use Rattle.cells.proofs.Decisions.{opening-known}
-use Rattle.records.specs.Record.{Good}
-use Rattle.records.proofs.CallLaws.{checks}
 use Rattle.records.proofs.First.{good-passes}
 use Rattle.blocks.specs.File.{blocksOf, plain, words, byteOf, fileOf}
 use Rattle.blocks.specs.Calls.{BlockCheckOf, StoredVolumeOf, ReadOf, WriteOf}
@@ -20,13 +17,13 @@ use Rattle.blocks.proofs.Sound.{sound-passes}
 use Rattle.blocks.proofs.CallLaws.{one-check-blocks, one-stored-volume, one-read, one-write}
 use Rattle.blocks.proofs.Theorems.{writes-good, reads-file}
 use Rattle.blocks.proofs.Instances.{good, one-sound, one-depth, one-codes, block-check-holds, stored-volume-holds, read-holds, write-holds}
+use Rattle.arrivals.proofs.Instances.{good-none}
 use Rattle.cab.specs.Packed.{Packed}
 use Rattle.cab.proofs.Unique.{one-cab-check-blocks, one-cab-stored-volume, cab-check-blocks-holds, cab-stored-volume-holds}
 use Rattle.demands.specs.Examples.{r057}
 use Rattle.demands.specs.Laws.{Succeeds}
 use Rattle.demands.proofs.Outcomes.{Left, numberOf, placeOf}
 use Rattle.demands.proofs.Agreement.{list-crowded}
-use Rattle.demands.proofs.Named.{right-check-none}
 
 -- what a reader leaves: its reading, and the buffer afterwards
 abbrev Read : Type 0
@@ -37,9 +34,6 @@ two-places = 7 ∷ 7 ∷ []
 
 abbrev bytes : List ℕ
 bytes = replicate 513 7
-
-good-none : Good 3 []
-good-none = opening-known (checks 3 []) (given 0) right-check-none refl .good
 
 -- ---- one that rejects everything
 

@@ -6,7 +6,7 @@ use borrow.Author.Needs.{needs}
 use Rattle.records.proofs.Fronts.{Front}
 use Rattle.blocks.specs.Block.{codes}
 use Rattle.arrivals.specs.Arrivals.{ArriveOf}
-use Rattle.arrivals.proofs.Steps.{read-refused, file, other-depth, moved}
+use Rattle.arrivals.proofs.Steps.{arrive-unread, arrive-file, arrive-other, arrive-moved}
 use Rattle.arrivals.proofs.arrive.Statement.{statement}
 use Rattle.arrivals.proofs.arrive.Tie as tie
 
@@ -19,7 +19,7 @@ module _ (c : tie.After-read) where
   after = c .read .last .1 .0
 
   refused : (c .read .result .answer .number ≡ 0 → ⊥) → ArriveOf (start .args .depth) (start .args .file .now) (start .args .m) (start .args .codes .now) (start .args .moved .now) (c .read .result .answer, after, start .args .moved .now)
-  refused = read-refused (start .args .depth) (start .args .file .now) (start .args .m) (start .args .codes .now) (start .args .moved .now) (c .read .result) after (c .read .ensures)
+  refused = arrive-unread (start .args .depth) (start .args .file .now) (start .args .m) (start .args .codes .now) (start .args .moved .now) (c .read .result) after (c .read .ensures)
 
 -- where it succeeded
 module _ (c : tie.Else1) where
@@ -32,7 +32,7 @@ module _ (c : tie.Else1) where
   front : Front (codes (start at-read .args .file .now)) (at-read .read .result .answer .place) (after at-read)
   front =
       let args = start at-read .args in
-      file (args .depth) (args .file .now) (args .m) (args .codes .now) (args .moved .now) (at-read .read .result) (after at-read) (at-read .read .ensures) none .front
+      arrive-file (args .depth) (args .file .now) (args .m) (args .codes .now) (args .moved .now) (at-read .read .result) (after at-read) (at-read .read .ensures) none .front
 
 pub arrive-spec : {M : Type 1} → statement M
 arrive-spec =
@@ -44,7 +44,7 @@ arrive-spec =
     (λ c.
     let else1 = c .before in
     let args = start (at-read else1) .args in
-    other-depth (args .depth) (args .file .now) (args .m) (args .codes .now) (args .moved .now) (at-read else1 .read .result) (after (at-read else1)) (at-read else1 .read .ensures) (none else1) (c .if2 .taken))
+    arrive-other (args .depth) (args .file .now) (args .m) (args .codes .now) (args .moved .now) (at-read else1 .read .result) (after (at-read else1)) (at-read else1 .read .ensures) (none else1) (c .if2 .taken))
     (λ c. front (c .before) .within)
     (λ c. front (c .before .before) .exact)
     (λ c κs. search needs) (λ c. search needs) (λ c. search needs)
@@ -53,4 +53,4 @@ arrive-spec =
     let else2 = at-move .before .before .before in
     let else1 = else2 .before in
     let args = start (at-read else1) .args in
-    moved (args .depth) (args .file .now) (args .m) (args .codes .now) (args .moved .now) (at-read else1 .read .result) (after (at-read else1)) (at-read else1 .read .ensures) (none else1) (search needs) (at-move .move-list .result) _ (at-move .move-list .ensures)))
+    arrive-moved (args .depth) (args .file .now) (args .m) (args .codes .now) (args .moved .now) (at-read else1 .read .result) (after (at-read else1)) (at-read else1 .read .ensures) (none else1) (search needs) (at-move .move-list .result) _ (at-move .move-list .ensures)))

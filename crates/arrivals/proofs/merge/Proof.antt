@@ -3,11 +3,10 @@ use mathlib.Core.Path.{_≡_}
 use mathlib.Core.List.{List}
 use Prim.Native.Nat.{ℕ}
 use borrow.Author.Needs.{needs}
-use Rattle.records.proofs.Fronts.{Front}
 use Rattle.sets.specs.declared.Op.the-variants.{Join}
 use Rattle.sets.proofs.SetLaws.{PairSuccess, set-success}
 use Rattle.sets.specs.Sets.{InResult}
-use Rattle.arrivals.proofs.Steps.{join-refused, written}
+use Rattle.arrivals.proofs.Steps.{merge-refused, merge-written}
 use Rattle.arrivals.proofs.merge.Statement.{statement}
 use Rattle.arrivals.proofs.merge.Tie as tie
 
@@ -50,11 +49,11 @@ merge-spec =
     (λ c.
     let at-join = c .before .before .before in
     let args = start at-join .args in
-    join-refused (args .depth) (args .ours .now) (args .theirs .now) (args .joined .now) (args .bytes .now) (at-join .join .result) (after at-join) (at-join .join .ensures) (c .if1 .taken))
+    merge-refused (args .depth) (args .ours .now) (args .theirs .now) (args .joined .now) (args .bytes .now) (at-join .join .result) (after at-join) (at-join .join .ensures) (c .if1 .taken))
     (λ c. both c .result .front .within)
     (λ c. both (c .before) .result .front .exact)
     (λ c κs. search needs) (λ c. search needs) (λ c. search needs)
     (λ c.
     let at-write = c .before .before in
     let else1 = at-write .before .before .before in
-    written (D else1) (a else1) (b else1) (w else1) (start (at-join else1) .args .bytes .now) (at-join else1 .join .result) (after (at-join else1)) (at-join else1 .join .ensures) (none else1) (at-write .write .result) _ (at-write .write .ensures)))
+    merge-written (D else1) (a else1) (b else1) (w else1) (start (at-join else1) .args .bytes .now) (at-join else1 .join .result) (after (at-join else1)) (at-join else1 .join .ensures) (none else1) (at-write .write .result) _ (at-write .write .ensures)))
