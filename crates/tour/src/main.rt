@@ -7,16 +7,13 @@ use arrivals::merge;
 use blocks::read;
 use blocks::stored_volume;
 use metres::Move;
+use print::BYTES;
+use print::LEAVES;
 use print::load;
 use print::show;
 use print::tell;
 use records::volume;
 use sets::intersect;
-
-// Room for eight blocks, and for their codes.
-const BYTES: usize = 4096;
-
-const LEAVES: usize = 976;
 
 // The joined record in its file, and the volumes in voxels: of ours, of theirs where it was moved to, of the join and of the intersection.
 fn report(depth: u32, own: &[u32], moved: &[u32], file: &[u8]) {

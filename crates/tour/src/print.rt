@@ -1,14 +1,20 @@
 // How the tour reads a file, and prints an answer and a record.
+use blocks::BLOCK_BYTES;
+use blocks::BLOCK_CODES;
 use blocks::read;
 use cells::Answer;
 use libc::STDOUT_FILENO;
+use text::LONGEST_HEAD;
+use text::LONGEST_PATH;
 use text::list_text;
 ghost use Rattle.io.specs.Counts.{Counts};
 
-// The most leaves of a record here, and the most letters of its listing.
-const LEAVES: usize = 976;
+// Room for eight blocks, for their codes, and for the text of those.
+pub const BYTES: usize = 8 * BLOCK_BYTES;
 
-const LETTERS: usize = 16384;
+pub const LEAVES: usize = 8 * BLOCK_CODES;
+
+const LETTERS: usize = LONGEST_HEAD + LONGEST_PATH * LEAVES;
 
 // The file that argument i names, at the front of `bytes`, and its length: 0 where it cannot be opened.
 pub fn load(i: usize, bytes: &mut [u8]) -> usize
