@@ -128,6 +128,10 @@ module _ (D : ℕ) (P : ℕ → Bool) (o : List ℕ) where
 
 -- ---- writers
 
+-- at the beginning
+pub ready-none : {D : ℕ} → Ready D (fresh 0 0) 0
+ready-none = record { run = omega arith; past = omega arith; few = omega arith; root = omega arith }
+
 -- past the next cell of the pending run
 pub ready-cell : {D pos p to n w : ℕ} → Fit p to w → Ready D (record { from = p; to = to; at = n }) pos → Ready D (record { from = p + w; to = to; at = n + 1 }) pos
 ready-cell f h = record { run = f .fits; past = h .past; few = omega (arith, h .few, fit-some f); root = h .root }

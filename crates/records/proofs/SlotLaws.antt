@@ -4,14 +4,14 @@ use mathlib.Core.List.{List, [], _∷_}
 use mathlib.Core.Bool.{Bool, true, false}
 use mathlib.Core.Logic.{⊎-elim}
 use Prim.Native.Nat.{ℕ, zero, suc, _+_, _-_, _*_, _/_, _^_, _<_, _≤_}
-use native.Mathlib.Nat.{suc-mul}
+use native.Mathlib.Nat.{suc-mul, zero-mul}
 use native.Mathlib.Omega.{arith}
 use lib.Arith.{digits-div}
 use lib.ListN.{length, getD}
 use Rattle.cells.specs.Cell.{proper, span, start, holds, end}
 use Rattle.cells.proofs.Bools.{refuted, clash}
 use Rattle.cells.proofs.Power.{le-or-lt, pow8-pos}
-use Rattle.cells.proofs.Cells.{span-pos}
+use Rattle.cells.proofs.Cells.{span-pos, within}
 use Rattle.records.specs.Record.{black}
 use Rattle.records.specs.Inner.{Starts}
 use Rattle.records.proofs.Lists.{holds-between, before-cell, after-cell}
@@ -76,6 +76,20 @@ module _ {D n b : ℕ} {l : List ℕ} {s : Slot} (x : Of D l n b s) where
   pub slot-colour : Source D l → (c : Bool) → SlotTint D l (8 ^ n) s (tintOf c) → (u : ℕ) → b * 8 ^ n ≤ u → u < b * 8 ^ n + 8 ^ n → black D l u ≡ c
   slot-colour o false t u v e = slot-off u v e (λ i p q. absurd (omega arith))
   slot-colour o true t u v e = black-at D l (s .lo) u (omega (arith, t .0, x .leaves .within)) (holds-between D (leaf o t) u (omega (arith, covers o t)) (omega (arith, covers o t)))
+
+-- the whole list is the root's slot
+pub whole-list : {D : ℕ} {l : List ℕ} → Source D l → Of D l D 0 (record { lo = 0; hi = length l })
+whole-list {D} {l} o =
+    let z = zero-mul (8 ^ D) in
+    record {
+      leaves = record {
+        order = omega arith;
+        within = omega arith;
+        before = λ i h. absurd (omega arith);
+        after = λ i h g. absurd (omega arith);
+        meets = λ i h g. (omega (arith, within D (getD l i 0) (proper-at D l (o .ordered) i g), span-pos D (getD l i 0)), omega (arith, span-pos D (getD l i 0)));
+      };
+    }
 
 -- the slot of cell b, by that number
 abbrev pub at-cell : {D n b : ℕ} {l : List ℕ} {s : Slot} → OfCell D l n s → Of D l n b s → OfCell D l n s

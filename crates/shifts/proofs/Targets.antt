@@ -6,13 +6,12 @@ use Prim.Native.Nat.{ℕ, suc, _+_, _-_, _*_, _/_, _%_, _^_, _<_, _≤_}
 use native.Mathlib.Nat.{div-add-mod', mod-lt, zero-mul}
 use native.Mathlib.Omega.{arith}
 use lib.Arith.{digits-div}
-use lib.ListN.{length, getD}
+use lib.ListN.{length}
 use Rattle.cells.proofs.Power.{pow8-pos, pow8-suc}
-use Rattle.cells.proofs.Cells.{within, span-pos}
 use Rattle.records.specs.Record.{black}
-use Rattle.records.proofs.Search.{proper-at}
 use Rattle.emit.specs.Inner.{Ready, fresh}
 use Rattle.emit.specs.declared.inner.Runs.{Runs}
+use Rattle.emit.proofs.Runs.{ready-none}
 use Rattle.shifts.specs.LabelSums.{sumLabel, carryLabel, Uses}
 use Rattle.shifts.specs.Shift.{shift, cellOf, need, shifted}
 use Rattle.records.specs.Slot.{Source, Of, tintOf, slotAt}
@@ -23,7 +22,7 @@ use Rattle.records.specs.declared.inner.slots.Tint.{Tint}
 use Rattle.shifts.proofs.Bits.{sum-lt, carry-lt, uses-none, uses-carry}
 use Rattle.shifts.proofs.Adder.{carry, shifted-in, source-cell, need-carries, needs-level, carries-lt, carry-none, child-cell, root-cell, low-labels, need-none}
 use Rattle.records.proofs.Edges.{child-within, child-edge}
-use Rattle.records.proofs.SlotLaws.{slot-colour, eightOf, each-of-eight}
+use Rattle.records.proofs.SlotLaws.{slot-colour, eightOf, each-of-eight, whole-list}
 
 -- ---- a target cell
 
@@ -126,19 +125,6 @@ child-aimed {D} {w} {l} {c} {p} {r} {s} {t} x h m v eh child place pick ready = 
 
 -- ---- the root: each slot is the whole list
 
-whole-list : {D : ℕ} {l : List ℕ} → Source D l → Of D l D 0 (record { lo = 0; hi = length l })
-whole-list {D} {l} o =
-    let z = zero-mul (8 ^ D) in
-    record {
-      leaves = record {
-        order = omega arith;
-        within = omega arith;
-        before = λ i h. absurd (omega arith);
-        after = λ i h g. absurd (omega arith);
-        meets = λ i h g. (omega (arith, within D (getD l i 0) (proper-at D l (o .ordered) i g), span-pos D (getD l i 0)), omega (arith, span-pos D (getD l i 0)));
-      };
-    }
-
 pub root-aimed : {D f w : ℕ} {l : List ℕ} → Source D l → f ≡ need D w → Aimed D l w (record { from = 0; k = D; axes = f }) (eightOf (record { lo = 0; hi = length l })) (fresh 0 0)
 root-aimed {D} {f} {w} {l} o e = record {
   source = o;
@@ -148,5 +134,5 @@ root-aimed {D} {f} {w} {l} o e = record {
   cell = 0;
   place = sym (zero-mul (8 ^ D));
   slots = λ q h u. subst (Of D l D (cellOf D w D 0 q)) (sym (each-of-eight _ q h)) (rw (root-cell D w q) (whole-list o));
-  ready = record { run = omega arith; past = omega arith; few = omega arith; root = omega arith };
+  ready = ready-none;
 }

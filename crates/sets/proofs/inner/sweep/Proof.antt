@@ -8,7 +8,7 @@ use native.Mathlib.Omega.{arith}
 use lib.ListN.{length}
 use lib.Seq.{length-sets}
 use Rattle.emit.specs.Inner.{fresh, Fed, Result}
-use Rattle.emit.proofs.Runs.{fed-none, fed-to, fed-then, fed-all}
+use Rattle.emit.proofs.Runs.{ready-none, fed-none, fed-to, fed-then, fed-all}
 use Rattle.sets.specs.Inner.{both, Points, Passing}
 use Rattle.sets.specs.declared.inner.Cursor.{Cursor}
 use Rattle.sets.proofs.Cursors.{behind-none}
@@ -27,7 +27,7 @@ loop-holds c =
     let start = c .before .before .before .before .before .before .before in
     jump (omega (arith, c .least .ensures))
     (record {
-      fed = fed-none _ _ 0 _ (fresh 0 0) (record { run = omega arith; past = omega arith; few = omega arith; root = omega arith });
+      fed = fed-none _ _ 0 _ (fresh 0 0) ready-none;
       left = c .before .before .load .ensures 0 (behind-none (start .pre .1));
       right = c .before .load2 .ensures 0 (behind-none (start .pre .2));
     })
