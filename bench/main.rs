@@ -7,7 +7,7 @@ mod plain;
 mod shapes;
 
 use plain::{Answer, Op};
-use shapes::{Shape, DEPTH};
+use shapes::{Shape, DEPTH, LEAVES};
 use std::time::Instant;
 
 const MOVES: [[i32; 3]; 4] = [[1, 0, 0], [1, 1, 1], [2, 2, 2], [256, 0, 0]];
@@ -57,6 +57,13 @@ fn table() {
         row(&s, "write", 101, || ours::write(DEPTH, &s.first, &mut file), || plain::write(DEPTH, &s.first, &mut copy));
         assert_eq!(file, copy, "{} stored", s.name);
         row(&s, "read", 101, || ours::read(&file, &mut room), || plain::read(&file, &mut other).0);
+        // with no room the answer is the number of bytes
+        let mut text = vec![0u8; plain::df_write(DEPTH, &s.first, &mut []).place as usize];
+        let mut twin = text.clone();
+        row(&s, "df write", 101, || ours::df_write(DEPTH, &s.first, &mut text), || plain::df_write(DEPTH, &s.first, &mut twin));
+        assert_eq!(text, twin, "{} spelled", s.name);
+        row(&s, "df read", 101, || ours::df_read(DEPTH, &text, &mut room), || plain::df_read(DEPTH, &text, &mut other));
+        assert!(room[..LEAVES] == s.first[..] && other[..LEAVES] == s.first[..], "{} read again", s.name);
     }
 }
 

@@ -10,6 +10,8 @@ extern "C" {
     fn probe_less(depth: u32, a: *const u32, a_len: usize, b: *const u32, b_len: usize, out: *mut u32, room: usize, answer: *mut u64, len: usize);
     fn probe_write(depth: u32, list: *const u32, list_len: usize, bytes: *mut u8, room: usize, answer: *mut u64, len: usize);
     fn probe_read(bytes: *const u8, bytes_len: usize, out: *mut u32, room: usize, answer: *mut u64, len: usize);
+    fn probe_df_read(depth: u32, text: *const u8, text_len: usize, out: *mut u32, room: usize, answer: *mut u64, len: usize);
+    fn probe_df_write(depth: u32, list: *const u32, list_len: usize, bytes: *mut u8, room: usize, answer: *mut u64, len: usize);
     fn probe_move(depth: u32, list: *const u32, list_len: usize, dx: i32, dy: i32, dz: i32, out: *mut u32, room: usize, answer: *mut u64, len: usize);
 }
 
@@ -47,4 +49,12 @@ pub fn write(depth: u32, list: &[u32], bytes: &mut [u8]) -> Answer {
 
 pub fn read(bytes: &[u8], out: &mut [u32]) -> Answer {
     told(|p, n| unsafe { probe_read(bytes.as_ptr(), bytes.len(), out.as_mut_ptr(), out.len(), p, n) })
+}
+
+pub fn df_write(depth: u32, list: &[u32], bytes: &mut [u8]) -> Answer {
+    told(|p, n| unsafe { probe_df_write(depth, list.as_ptr(), list.len(), bytes.as_mut_ptr(), bytes.len(), p, n) })
+}
+
+pub fn df_read(depth: u32, text: &[u8], out: &mut [u32]) -> Answer {
+    told(|p, n| unsafe { probe_df_read(depth, text.as_ptr(), text.len(), out.as_mut_ptr(), out.len(), p, n) })
 }

@@ -45,6 +45,8 @@ extern "C" {
     fn probe_read(bytes: *const u8, bytes_len: usize, out: *mut u32, room: usize, answer: *mut u64, len: usize);
     fn probe_block_check(bytes: *const u8, bytes_len: usize, answer: *mut u64, len: usize);
     fn probe_stored_volume(bytes: *const u8, bytes_len: usize, answer: *mut u64, len: usize);
+    fn probe_df_read(depth: u32, text: *const u8, text_len: usize, out: *mut u32, room: usize, answer: *mut u64, len: usize);
+    fn probe_df_write(depth: u32, list: *const u32, list_len: usize, bytes: *mut u8, room: usize, answer: *mut u64, len: usize);
     fn probe_less(depth: u32, a: *const u32, a_len: usize, b: *const u32, b_len: usize, out: *mut u32, room: usize, answer: *mut u64, len: usize);
 }
 
@@ -188,6 +190,24 @@ pub fn refused_text(n: usize, room: usize, number: u32, place: u64) -> Wrote<u8>
 
 pub fn read(n: usize, room: usize, bytes: &[u8]) -> Wrote<u32> {
     wrote(WORD_GUARD, n, room, |out, p, len| unsafe { probe_read(bytes.as_ptr(), bytes.len(), out, room, p, len) })
+}
+
+/// A call on what is lent to be read: a copy, which must stay as it is.
+fn lent<T: Copy + PartialEq, R>(from: &[T], call: impl FnOnce(*const T) -> Result<R, String>) -> Result<R, String> {
+    let mut copy = from.to_vec();
+    let got = call(copy.as_mut_ptr())?;
+    if copy != from {
+        return Err("what was lent to be read changed".to_string());
+    }
+    Ok(got)
+}
+
+pub fn df_read(n: usize, room: usize, depth: u32, text: &[u8]) -> Wrote<u32> {
+    lent(text, |t| wrote(WORD_GUARD, n, room, |out, p, len| unsafe { probe_df_read(depth, t, text.len(), out, room, p, len) }))
+}
+
+pub fn df_write(n: usize, room: usize, depth: u32, list: &[u32]) -> Wrote<u8> {
+    lent(list, |l| wrote(BYTE_GUARD, n, room, |out, p, len| unsafe { probe_df_write(depth, l, list.len(), out, room, p, len) }))
 }
 
 pub fn block_check(n: usize, bytes: &[u8]) -> Told {

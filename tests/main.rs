@@ -4,6 +4,7 @@
 //!     outside [SEED [CASES]]     prints the seed, a line for each failure, and at last 'N passed, M failed'
 mod blocks;
 mod cells;
+mod df;
 mod link;
 mod listing;
 mod lists;
@@ -27,6 +28,7 @@ fn main() {
     moves::all(&mut run);
     blocks::all(&mut run);
     text::all(&mut run);
+    df::all(&mut run);
     listing::all(&mut run);
     println!("{} passed, {} failed", run.passed, run.failed);
     if run.failed > 0 || run.passed == 0 {

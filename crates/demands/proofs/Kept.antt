@@ -1,6 +1,7 @@
 -- Demand 1: "A rejected call changes no byte it was lent." And document 01: "Buffers beyond what is written keep their content." Of each call that is lent a
 -- buffer to write. Assumes nothing.
 use mathlib.Core.Path.{_≡_, refl, subst⁻¹}
+use mathlib.Core.Bool.{true}
 use mathlib.Core.List.{List, [], _∷_}
 use Prim.Native.Nat.{ℕ}
 use lib.IntN.{ℤ}
@@ -25,6 +26,7 @@ use Rattle.blocks.specs.declared.Reading.{Reading}
 use Rattle.text.specs.Text.{textOf, TextOf, refusedText, RefusedOf}
 use Rattle.arrivals.specs.Arrivals.{Step, leaving, OtherDepth, ArriveOf, MergeOf}
 use Rattle.arrivals.proofs.Steps.{of-read, MovedFrom, Arrived, of-join, StoredAs, JoinedTo}
+use Rattle.df.specs.Df.{shows, Acceptable, WrongByte, StopsEarly, DfReadOf, DfOf, DfWriteOf}
 use Rattle.demands.specs.Laws.{Kept, Keeps}
 use Rattle.demands.proofs.Outcomes.{Left}
 
@@ -88,6 +90,15 @@ text-keeps D l o o' r d = tested-keeps o (r, o') D l (textOf D l) d
 
 pub refused-keeps : (n p : ℕ) → Keeps (RefusedOf n p)
 refused-keeps n p o o' r d = writes-keeps o (r, o') (refusedText n p) d
+
+pub df-read-keeps : (D : ℕ) (t : List ℕ) → Keeps (DfReadOf D t)
+df-read-keeps D t o o' r d =
+    decided-keeps o (r, o') (TooDeep deepest D ∷ WrongByte D t ∷ StopsEarly D t ∷ []) (λ s. (x : Acceptable D t) × WritesListOf D (λ v. shows D (x .tree) v ≡ true) o s)
+    (λ (_, (l, _, w)). writes-keeps o (r, o') l w) d
+
+pub df-write-keeps : (D : ℕ) (l : List ℕ) → Keeps (DfWriteOf D l)
+df-write-keeps D l o o' r d =
+    decided-keeps o (r, o') (TooDeep deepest D ∷ Faulty D l 1 ∷ []) (λ s. (t : List ℕ) × DfOf D l t × WritesOf t o s) (λ (t, _, w). writes-keeps o (r, o') t w) d
 
 -- ---- the steps of the order's job, of the buffer of their result; w is the buffer for work, and w' what stands there afterwards
 

@@ -18,3 +18,4 @@ pub mod Named
 pub mod Impostors
 pub mod StoredImpostors
 pub mod TextImpostors
+pub mod DfImpostors

@@ -1,11 +1,12 @@
-// Runs the examples of document 01 and prints a line for each: the call and its inputs, then number, place and list, and what comes beside them.
+// Runs the examples of documents 01 and 02 and prints a line for each: the call and its inputs, then number, place and list, and what comes beside them.
 mod on_blocks;
-mod on_cells;
+mod on_df;
 mod on_moves;
-mod on_records;
-mod on_sets;
-mod on_text;
-mod print;
+
+use printing::inner::on_cells;
+use printing::inner::on_records;
+use printing::inner::on_sets;
+use printing::inner::on_text;
 
 fn main() {
     on_cells::run();
@@ -15,4 +16,5 @@ fn main() {
     on_moves::run_metres();
     on_blocks::run();
     on_text::run();
+    on_df::run();
 }

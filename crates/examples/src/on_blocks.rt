@@ -1,9 +1,9 @@
 // Stored blocks: lists written, their check, and read back.
-use crate::print;
 use blocks::check_blocks;
 use blocks::read;
 use blocks::stored_volume;
 use blocks::write;
+use printing::inner::print;
 ghost use Prim.Native.Nat.{_<_};
 
 fn wide(x: u8) -> u64

@@ -1,8 +1,8 @@
 // Moves in whole voxels and in metres, each with so much room for its result.
-use crate::print;
 use metres::Metres;
 use metres::Move;
 use moves::move_list;
+use printing::inner::print;
 
 fn whole(depth: u32, list: &[u32], dx: i32, dy: i32, dz: i32, room: usize) {
     let mut space = [0u32; 64];

@@ -2,6 +2,7 @@
 mod inner;
 pub mod on_blocks;
 pub mod on_cells;
+pub mod on_df;
 pub mod on_moves;
 pub mod on_records;
 pub mod on_sets;

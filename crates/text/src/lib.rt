@@ -1,6 +1,6 @@
 // The bytes of a listing: document 01, "Listing program".
 // A host calls `list_text` and `refused_text`.
-mod inner;
+pub mod inner;
 
 use crate::inner::lines::put_listing;
 use crate::inner::lines::put_refused;
