@@ -54,7 +54,7 @@ common-same c d m a same x = record {
   mixed = λ e b all. x .mixed e b (λ i h. same i h ∙ all i h);
 }
 
-pub common-none : (c : ℕ → Tree) → InCommon c 0 0
+common-none : (c : ℕ → Tree) → InCommon c 0 0
 common-none c = record { kinds = inl (refl, refl); one = λ b e i h. absurd (omega arith); mixed = λ e b all. omega arith }
 
 -- what a tree's head can be

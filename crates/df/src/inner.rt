@@ -1,4 +1,4 @@
-// INNER: the descents of DF text, into eight children in label order, the levels left falling. A host must not call these.
+// INNER: the descents of DF text, into eight children in label order, the levels left falling.
 pub mod reading;
 pub mod spelling;
 

@@ -1,6 +1,6 @@
 // DF text, the depth-first form of document 002: ticket 1 of document 02.
 // A host calls `df_read` and `df_write`; `inner` is the two descents under them.
-pub mod inner;
+mod inner;
 
 use crate::inner::reading::read_text;
 use crate::inner::spelling::put_text;

@@ -1,5 +1,5 @@
 // The bytes of a listing: document 01, "Listing program".
-// A host calls `list_text` and `refused_text`.
+// A host calls `list_text` and `refused_text`; `inner` is for the crates above.
 pub mod inner;
 
 use crate::inner::lines::put_listing;
