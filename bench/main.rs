@@ -7,7 +7,7 @@ mod plain;
 mod shapes;
 
 use plain::{Answer, Op};
-use shapes::{Shape, DEPTH, LEAVES};
+use shapes::{Step, DEPTH, LEAVES};
 use std::time::Instant;
 
 const MOVES: [[i32; 3]; 4] = [[1, 0, 0], [1, 1, 1], [2, 2, 2], [256, 0, 0]];
@@ -29,12 +29,23 @@ fn median(mut times: Vec<f64>) -> f64 {
     times[times.len() / 2]
 }
 
-/// One row: both do the job, agree, and are timed by turns, so that a machine that changes its pace changes it for both.
-fn row(shape: &Shape, job: &str, runs: usize, mut ours: impl FnMut() -> Answer, mut plain: impl FnMut() -> Answer) {
-    assert_eq!(ours(), plain(), "{} {job}", shape.name);
+/// One row: both do the job on what is named, agree, and are timed by turns, so that a machine that changes its pace changes it for both.
+fn row(name: &str, job: &str, runs: usize, mut ours: impl FnMut() -> Answer, mut plain: impl FnMut() -> Answer) {
+    assert_eq!(ours(), plain(), "{name} {job}");
     let (a, b): (Vec<f64>, Vec<f64>) = (0..runs).map(|_| (time(&mut ours), time(&mut plain))).unzip();
     let (a, b) = (median(a), median(b));
-    println!("| {} | {job} | {a:.0} | {b:.0} | {:.2} |", shape.name, a / b);
+    println!("| {name} | {job} | {a:.0} | {b:.0} | {:.2} |", a / b);
+}
+
+/// The neighbours of all cells: how many are refused, and the sum of the others' codes.
+fn all_neighbours(cells: &[Step], one: impl Fn(u32, u32, [i32; 3]) -> Answer) -> Answer {
+    let mut sum = Answer { number: 0, place: 0, list: 0 };
+    for s in cells {
+        let r = one(DEPTH, s.code, s.d);
+        sum.number += (r.number != 0) as u32;
+        sum.place += r.place;
+    }
+    sum
 }
 
 fn table() {
@@ -44,25 +55,27 @@ fn table() {
     // 16,384 codes take 135 blocks
     let mut file = vec![0u8; 135 * 512];
     let mut copy = file.clone();
+    let cells = shapes::steps();
+    row("cells", "a million neighbours", 31, || all_neighbours(&cells, ours::neighbour), || all_neighbours(&cells, plain::neighbour));
     for s in shapes::all() {
-        row(&s, "check", 301, || ours::check(DEPTH, &s.first), || plain::check(DEPTH, &s.first));
-        row(&s, "volume", 301, || ours::volume(DEPTH, &s.first), || plain::volume(DEPTH, &s.first));
+        row(s.name, "check", 301, || ours::check(DEPTH, &s.first), || plain::check(DEPTH, &s.first));
+        row(s.name, "volume", 301, || ours::volume(DEPTH, &s.first), || plain::volume(DEPTH, &s.first));
         for (name, op) in [("join", Op::Join), ("intersection", Op::Meet), ("difference", Op::Less)] {
-            row(&s, name, 101, || ours::set(op, DEPTH, &s.first, &s.second, &mut room), || plain::set(op, DEPTH, &s.first, &s.second, &mut other));
+            row(s.name, name, 101, || ours::set(op, DEPTH, &s.first, &s.second, &mut room), || plain::set(op, DEPTH, &s.first, &s.second, &mut other));
         }
         for d in MOVES {
             let name = format!("move by {d:?}");
-            row(&s, &name, 11, || ours::shift(DEPTH, &s.first, d, &mut room), || plain::shift(DEPTH, &s.first, d, &mut other));
+            row(s.name, &name, 11, || ours::shift(DEPTH, &s.first, d, &mut room), || plain::shift(DEPTH, &s.first, d, &mut other));
         }
-        row(&s, "write", 101, || ours::write(DEPTH, &s.first, &mut file), || plain::write(DEPTH, &s.first, &mut copy));
+        row(s.name, "write", 101, || ours::write(DEPTH, &s.first, &mut file), || plain::write(DEPTH, &s.first, &mut copy));
         assert_eq!(file, copy, "{} stored", s.name);
-        row(&s, "read", 101, || ours::read(&file, &mut room), || plain::read(&file, &mut other).0);
+        row(s.name, "read", 101, || ours::read(&file, &mut room), || plain::read(&file, &mut other).0);
         // with no room the answer is the number of bytes
         let mut text = vec![0u8; plain::df_write(DEPTH, &s.first, &mut []).place as usize];
         let mut twin = text.clone();
-        row(&s, "df write", 101, || ours::df_write(DEPTH, &s.first, &mut text), || plain::df_write(DEPTH, &s.first, &mut twin));
+        row(s.name, "df write", 101, || ours::df_write(DEPTH, &s.first, &mut text), || plain::df_write(DEPTH, &s.first, &mut twin));
         assert_eq!(text, twin, "{} spelled", s.name);
-        row(&s, "df read", 101, || ours::df_read(DEPTH, &text, &mut room), || plain::df_read(DEPTH, &text, &mut other));
+        row(s.name, "df read", 101, || ours::df_read(DEPTH, &text, &mut room), || plain::df_read(DEPTH, &text, &mut other));
         assert!(room[..LEAVES] == s.first[..] && other[..LEAVES] == s.first[..], "{} read again", s.name);
     }
 }

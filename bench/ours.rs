@@ -3,6 +3,7 @@ use crate::plain::{Answer, Op};
 
 #[link(name = "probe", kind = "static")]
 extern "C" {
+    fn probe_neighbour(depth: u32, code: u32, dx: i32, dy: i32, dz: i32, answer: *mut u64, len: usize);
     fn probe_check(depth: u32, list: *const u32, list_len: usize, answer: *mut u64, len: usize);
     fn probe_volume(depth: u32, list: *const u32, list_len: usize, answer: *mut u64, len: usize);
     fn probe_join(depth: u32, a: *const u32, a_len: usize, b: *const u32, b_len: usize, out: *mut u32, room: usize, answer: *mut u64, len: usize);
@@ -20,6 +21,10 @@ fn told(call: impl FnOnce(*mut u64, usize)) -> Answer {
     let mut words = [0u64; 8];
     call(words.as_mut_ptr(), words.len());
     Answer { number: words[0] as u32, place: words[1], list: words[2] as u32 }
+}
+
+pub fn neighbour(depth: u32, code: u32, d: [i32; 3]) -> Answer {
+    told(|p, n| unsafe { probe_neighbour(depth, code, d[0], d[1], d[2], p, n) })
 }
 
 pub fn check(depth: u32, list: &[u32]) -> Answer {

@@ -24,6 +24,32 @@ fn start(depth: u32, code: u32) -> u32 {
     code * width(depth, code) - (1 << (3 * depth))
 }
 
+/// One step along the axis whose bits the mask has; none where it leaves the root.
+fn step(mask: u32, code: u32, d: i32) -> Option<u32> {
+    let (one, border) = match d {
+        0 => return Some(code),
+        1 => (1, mask),
+        _ => (mask, 0),
+    };
+    let sum = (code | !mask).wrapping_add(one);
+    (code & mask != border).then_some(sum & mask | code & !mask)
+}
+
+pub fn neighbour(depth: u32, code: u32, d: [i32; 3]) -> Answer {
+    if depth > 10 {
+        return told(1, 0, 0);
+    }
+    if !proper(depth, code) {
+        return told(6, 0, 0);
+    }
+    if d == [0; 3] || d.iter().any(|z| !(-1..=1).contains(z)) {
+        return told(6, 1, 0);
+    }
+    let ones = ((1 << (31 - code.leading_zeros())) - 1) / 7;
+    let there = (0..3).try_fold(code, |at, axis| step(ones << axis, at, d[axis]));
+    there.map_or(told(7, 0, 0), |m| told(0, m as u64, 0))
+}
+
 /// The first fault, or the number of voxels.
 fn judged(depth: u32, codes: impl Iterator<Item = u32>) -> Result<u32, (u32, u64)> {
     let (mut last, mut past, mut run, mut sum) = (0, 0, 0, 0);

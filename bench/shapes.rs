@@ -1,4 +1,4 @@
-//! Lists of 16,384 leaves at depth 10, of five shapes, each twice: as it is and displaced.
+//! Lists of 16,384 leaves at depth 10, of five shapes, each twice: as it is and displaced; and a million cells, each with a direction.
 pub const DEPTH: u32 = 10;
 pub const LEAVES: usize = 16_384;
 
@@ -120,16 +120,37 @@ fn surface(d: [u32; 3]) -> Vec<u32> {
     voxels((0..LEAVES as u32).map(column).collect())
 }
 
+/// The next random number of 31 bits.
+fn next(state: &mut u64) -> u32 {
+    *state = state.wrapping_mul(6364136223846793005).wrapping_add(1442695040888963407);
+    (*state >> 33) as u32
+}
+
 /// Voxels at random; every other one is the same in both lists.
 fn scatter(seed: u64) -> Vec<u32> {
     let mut state = [seed, 77];
-    let mut next = |k: usize| {
-        state[k] = state[k].wrapping_mul(6364136223846793005).wrapping_add(1442695040888963407);
-        (state[k] >> 33) as u32
-    };
-    let mut coordinate = |k: usize| next(k) % 700;
+    let mut coordinate = |k: usize| next(&mut state[k]) % 700;
     let codes = (0..LEAVES + 200).map(|i| voxel([coordinate(i % 2), coordinate(i % 2), coordinate(i % 2)])).collect();
     voxels(codes)
+}
+
+/// A cell, and a direction of the 26.
+pub struct Step {
+    pub code: u32,
+    pub d: [i32; 3],
+}
+
+/// A million cells at random, of every level, each with a direction.
+pub fn steps() -> Vec<Step> {
+    let mut state = 5;
+    let mut one = || {
+        let level = next(&mut state) % (DEPTH + 1);
+        let code = (0..level).fold(1, |code, _| code * 8 + next(&mut state) % 8);
+        // 13 of 27 is no step
+        let n = (14 + next(&mut state) % 26) % 27;
+        Step { code, d: [1, 3, 9].map(|weight| (n / weight % 3) as i32 - 1) }
+    };
+    (0..1_000_000).map(|_| one()).collect()
 }
 
 pub fn all() -> Vec<Shape> {

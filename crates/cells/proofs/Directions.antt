@@ -1,10 +1,12 @@
 -- Steps and directions as numbers. Assumes nothing.
 use mathlib.Core.Path.{_≡_, refl, ap}
-use mathlib.Core.Logic.{_⊎_, inl, inr}
-use Prim.Native.Nat.{ℕ, zero, suc, _+_, _*_, _<_, _≤_}
+use mathlib.Core.Logic.{inl, inr}
+use Prim.Native.Nat.{ℕ, zero, suc, _+_, _/_, _%_, _^_, _<_, _≤_}
 use native.Mathlib.Omega.{arith}
 use lib.IntN.{ℤ, pos, negsuc}
-use Rattle.cells.specs.Inner.{digitOf, Direction}
+use Rattle.cells.specs.Inner.{IsStep}
+use Rattle.cells.specs.Neighbour.{IsDirection}
+use Rattle.cells.specs.Payeur.{digitOf, directionOf}
 use Rattle.cells.specs.Place.{EachAxis}
 use Rattle.cells.proofs.Integers.{above, below}
 use Rattle.cells.proofs.Places.{each-axis}
@@ -12,7 +14,7 @@ use Rattle.cells.proofs.Rules.{forth}
 
 -- ---- a step and its digit
 
-digit-step : (z : ℤ) → digitOf z ≤ 2 → (z ≡ negsuc 0) ⊎ ((z ≡ pos 0) ⊎ (z ≡ pos 1))
+digit-step : (z : ℤ) → digitOf z ≤ 2 → IsStep z
 unfolding digitOf
 digit-step (pos zero) h = inr (inl refl)
 digit-step (pos (suc zero)) h = inr (inr refl)
@@ -20,7 +22,7 @@ digit-step (pos (suc (suc n))) h = absurd (omega arith)
 digit-step (negsuc zero) h = inl refl
 digit-step (negsuc (suc n)) h = absurd (omega arith)
 
-step-digit : {z : ℤ} → (z ≡ negsuc 0) ⊎ ((z ≡ pos 0) ⊎ (z ≡ pos 1)) → digitOf z ≤ 2
+step-digit : {z : ℤ} → IsStep z → digitOf z ≤ 2
 unfolding digitOf
 step-digit (inl e) = omega (arith, ap digitOf e)
 step-digit (inr (inl e)) = omega (arith, ap digitOf e)
@@ -46,31 +48,27 @@ forth-step (negsuc (suc n)) h = absurd (omega arith)
 -- ---- a direction
 
 module _ (d : ℕ → ℤ) where
-  -- a step that is none: no direction
-  pub bad-step : (a : ℕ) → a < 3 → 2 < digitOf (d a) → Direction d 0
-  bad-step a h b = record { bad = λ _ is. omega (arith, step-digit (is .steps a h)); good = λ h. absurd (h refl); small = omega arith; digits = λ h. absurd (h refl) }
-
-  -- three steps, and their number
-  abbrev pub numberOf : ℕ
-  numberOf = digitOf (d 0) + 3 * digitOf (d 1) + 9 * digitOf (d 2)
-
-  pub numbered : EachAxis (λ a. digitOf (d a) ≤ 2) → Direction d numberOf
+  -- three steps, not all of them 0
+  pub directed : EachAxis (λ a. digitOf (d a) ≤ 2) → (directionOf d ≡ 0 → ⊥) → IsDirection d
   unfolding digitOf
-  numbered h = record {
-    bad = λ e is. is .some (each-axis _ (no-digit (d 0) (omega arith)) (no-digit (d 1) (omega arith)) (no-digit (d 2) (omega arith)));
-    good = λ n. record { steps = λ a l. digit-step (d a) (h a l); some = λ none. n (omega (arith, still none 0 (omega arith), still none 1 (omega arith), still none 2 (omega arith))) };
-    small = omega (arith, x, y, z);
-    digits = λ _. each-axis _ (omega (arith, x)) (omega (arith, x, y)) (omega (arith, x, y, z));
-  }
+  directed h n = record { steps = λ a l. digit-step (d a) (h a l); some = λ none. n (omega (arith, still none 0 (omega arith), still none 1 (omega arith), still none 2 (omega arith))) }
     where
-      x : digitOf (d 0) ≤ 2
-      x = h 0 (omega arith)
-
-      y : digitOf (d 1) ≤ 2
-      y = h 1 (omega arith)
-
-      z : digitOf (d 2) ≤ 2
-      z = h 2 (omega arith)
-
       still : EachAxis (λ a. d a ≡ pos 0) → EachAxis (λ a. digitOf (d a) ≡ 0)
       still none a l = ap digitOf (none a l)
+
+-- the number of a direction: its digits are the steps
+pub record Digits (d : ℕ → ℤ) : Type 0 where
+  pub small : directionOf d < 27
+  pub some : directionOf d ≡ 0 → ⊥
+  pub each : EachAxis (λ a. digitOf (d a) ≡ directionOf d / 3 ^ a % 3)
+
+pub digits : (d : ℕ → ℤ) → IsDirection d → Digits d
+digits d is =
+    let x = step-digit (is .steps 0 (omega arith)) in
+    let y = step-digit (is .steps 1 (omega arith)) in
+    let z = step-digit (is .steps 2 (omega arith)) in
+    record {
+      small = omega arith;
+      some = λ e. is .some (each-axis _ (no-digit (d 0) (omega arith)) (no-digit (d 1) (omega arith)) (no-digit (d 2) (omega arith)));
+      each = each-axis _ (omega arith) (omega arith) (omega arith);
+    }

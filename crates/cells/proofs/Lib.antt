@@ -17,16 +17,20 @@ pub mod CornerLaws
 pub mod Labelwise
 -- displaced places and voxels
 pub mod Displacements
--- document 001: the rules, labels worked out by them, the loop, directions, the neighbour
-pub mod Rules
-pub mod Steps
-pub mod Carries
-pub mod Directions
+-- the neighbour by the cells of its level
 pub mod NeighbourLaws
 pub mod Views
 -- document 000: two's complements, table 2 and its sums
 pub mod Congruent
 pub mod Sums
+-- sums on the bits of one axis, and the steps that the code takes by them
+pub mod Dilated
+pub mod AxisSteps
+-- document 001: the rules, labels worked out by them, directions, the neighbour by its tables
+pub mod Rules
+pub mod Steps
+pub mod Directions
+pub mod ByTables
 -- what follows of the calls, and instances
 pub mod Theorems
 pub mod Instances

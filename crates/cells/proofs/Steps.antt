@@ -4,9 +4,9 @@ use Prim.Native.Nat.{ℕ, zero, suc, _+_, _-_, _*_, _/_, _%_, _^_, _<_}
 use native.Mathlib.Omega.{arith}
 use Rattle.cells.specs.Place.{EachAxis, along}
 use Rattle.cells.specs.Payeur.{rule, stepped, carried}
-use Rattle.cells.proofs.Power.{pow2-pos, pow2-suc, pow8-suc}
+use Rattle.cells.proofs.Power.{pow2-pos, pow2-suc}
 use Rattle.cells.proofs.Labelwise.{past, labelwise}
-use Rattle.cells.proofs.Rules.{forth, turn, fair, rule-still}
+use Rattle.cells.proofs.Rules.{forth, turn, fair}
 
 -- ---- the labels that are left, and the direction of the carry to the last of them
 
@@ -23,24 +23,6 @@ past-carried (suc k) s = past-carried k (next s)
 
 pub carried-lt : (k v d : ℕ) → d < 27 → carried k v d < 27
 carried-lt k v d h = rw (← past-carried k (v, d, h)) (past next k (v, d, h) .2)
-
--- ---- no step
-
-pub stepped-still : (k v : ℕ) → v < 8 ^ k → stepped k v 0 ≡ v
-unfolding stepped
-stepped-still zero v h = let e : 8 ^ 0 ≡ 1 = refl in omega arith
-stepped-still (suc k) v h =
-    let r : rule (v % 8) 0 ≡ v % 8 = rule-still (v % 8) (omega arith) in
-    let z : v % 8 / 8 ≡ 0 = omega arith in
-    rw (r, z) (omega (arith, stepped-still k (v / 8) (omega (arith, pow8-suc k))))
-
-pub carried-still : (k v : ℕ) → carried k v 0 ≡ 0
-unfolding carried
-carried-still zero v = refl
-carried-still (suc k) v =
-    let r : rule (v % 8) 0 ≡ v % 8 = rule-still (v % 8) (omega arith) in
-    let z : v % 8 / 8 ≡ 0 = omega arith in
-    rw (r, z) (carried-still k (v / 8))
 
 -- ---- along axis a: the coordinate and the step are the new coordinate and the carry times 2 ^ k (one is added to each step)
 

@@ -1,6 +1,6 @@
 -- Document 000's table 2: each entry is the unit step of document 01's rule, and adding a displacement to a path by the table, the last carry dropped, gives the
 -- displaced voxel's path. An axis is a number a below 3: x, y, z; its bit in a label is 2 ^ a. Assumes nothing.
-use mathlib.Core.Path.{_≡_, refl}
+use mathlib.Core.Path.{_≡_, refl, sym, subst}
 use mathlib.Core.Bool.{Bool, true, false}
 use mathlib.Core.List.{[]}
 use Prim.Native.Nat.{ℕ, _+_, _*_, _/_, _%_, _^_, _<_}
@@ -9,14 +9,17 @@ use native.Mathlib.Omega.{arith}
 use lib.Dec.{eqb, ltb, eqb→eq, ltb→lt}
 use lib.IntN.{ℤ, pos, negsuc}
 use lib.ListN.{getD}
+use borrow.Author.Tests.{eqb-true}
 use Rattle.cells.specs.Labels.{flips, carries}
+use Rattle.cells.specs.Inner.{only}
 use Rattle.cells.specs.AhujaNash.{table2, plus, added, twos, summed}
-use Rattle.cells.specs.Place.{EachAxis, along, Came}
-use Rattle.cells.proofs.Places.{each-axis, along-lt, same-voxel, bitOf}
+use Rattle.cells.specs.Place.{EachAxis, along, Displaced, Came}
+use Rattle.cells.proofs.Places.{along-lt, bitOf}
 use Rattle.cells.proofs.Labelwise.{labelwise}
 use Rattle.cells.proofs.Table.{everywhere, at, at2, at3, at4}
-use Rattle.cells.proofs.Congruent.{congruent-equal, twos-congruent}
-use Rattle.cells.proofs.Displacements.{displaced-parts}
+use Rattle.cells.proofs.Congruent.{Congruent, congruent-equal, twos-congruent}
+use Rattle.cells.proofs.Displacements.{displaced-parts, one-came, still-y, still-z, walked}
+use Rattle.cells.proofs.Integers.{above, below}
 
 -- ---- the table's rule, over the whole table
 
@@ -43,23 +46,23 @@ unit-step a v ha hv = record {
 
 -- ---- a label, a bit t of the displacement along axis a, and a carry c: the new label and the carry out
 
-abbrev new : ℕ → ℕ → ℕ → ℕ → ℕ
+abbrev pub new : ℕ → ℕ → ℕ → ℕ → ℕ
 new a v t c = plus a (plus a v t % 10) c % 10
 
-abbrev out : ℕ → ℕ → ℕ → ℕ → ℕ
+abbrev pub out : ℕ → ℕ → ℕ → ℕ → ℕ
 out a v t c = plus a v t / 10 + plus a (plus a v t % 10) c / 10
 
 -- x on the axis of the displacement, nothing on the others
-abbrev on : Bool → ℕ → ℕ
+abbrev pub on : Bool → ℕ → ℕ
 on true x = x
 on false x = 0
 
-record LabelSum (a v t c : ℕ) : Type 0 where
-  label : new a v t c < 8
-  carry : out a v t c < 2
-  bits : EachAxis (λ b. bitOf b (new a v t c) + 2 * on (eqb a b) (out a v t c) ≡ bitOf b v + on (eqb a b) (t + c))
+pub record LabelSum (a v t c : ℕ) : Type 0 where
+  pub label : new a v t c < 8
+  pub carry : out a v t c < 2
+  pub bits : EachAxis (λ b. bitOf b (new a v t c) + 2 * on (eqb a b) (out a v t c) ≡ bitOf b v + on (eqb a b) (t + c))
 
-label-sum : (a v t c : ℕ) → a < 3 → v < 8 → t < 2 → c < 2 → LabelSum a v t c
+pub label-sum : (a v t c : ℕ) → a < 3 → v < 8 → t < 2 → c < 2 → LabelSum a v t c
 unfolding plus
 label-sum a v t c ha hv ht hc = record {
   label = ltb→lt _ _ (at4 (λ a v t c. ltb (new a v t c) 8) 3 8 2 2 tt a v t c ha hv ht hc);
@@ -98,32 +101,46 @@ module _ (a : ℕ) (axis : a < 3) where
       go true A B o t c N f = omega arith
       go false A B o t c N f = omega arith
 
+-- ---- where t and the carry c are together the two's complement of d: the coordinate is displaced by d, and the other two stay
+
+module _ (a k i : ℕ) (axis : a < 3) (d : ℤ) (t c : ℕ) (carry : c < 2) (complement : Congruent (2 ^ k) (t + c + below d) (above d)) where
+  pub added-came : (y : ℕ) → y < 2 ^ k → Displaced d (along (2 ^ a) k i) y → Came k (only a d) i (added a k i t c)
+  added-came y low leads = record { root = added-sum a axis k i t c carry .0; each = λ b h. let (l, e) = added-sum a axis k i t c carry .1 b h in go b l (eqb a b) refl e }
+    where
+      go : (b l : ℕ) (s : Bool) → eqb a b ≡ s → along (2 ^ b) k (added a k i t c) + l * 2 ^ k ≡ along (2 ^ b) k i + on s (t + c)
+          → Displaced (elim s [ true ↦ d | false ↦ pos 0 ]) (along (2 ^ b) k i) (along (2 ^ b) k (added a k i t c))
+      go b l true q e =
+          let to : Displaced d (along (2 ^ b) k i) y = subst (λ (x : ℕ). Displaced d (along (2 ^ x) k i) y) (eqb-true a b q) leads in
+          let same : along (2 ^ b) k (added a k i t c) ≡ y =
+          congruent-equal (2 ^ k) _ _ (along-lt (2 ^ b) k (added a k i t c)) low
+          (record {
+            j = l + complement .j;
+            k = complement .k;
+            same = omega (arith, e, complement .same, displaced-parts d (along (2 ^ b) k i) y .0 to, add-mul l (complement .j) (2 ^ k));
+          }) in
+          subst (Displaced d (along (2 ^ b) k i)) (sym same) to
+      go b l false q e =
+          let same : along (2 ^ b) k (added a k i t c) ≡ along (2 ^ b) k i =
+          congruent-equal (2 ^ k) _ _ (along-lt (2 ^ b) k (added a k i t c)) (along-lt (2 ^ b) k i) (record { j = l; k = 0; same = omega (arith, e) }) in
+          displaced-parts (pos 0) (along (2 ^ b) k i) (along (2 ^ b) k (added a k i t c)) .1 (omega (arith, same))
+
 -- ---- THE LAW OF 000: where the displaced voxel lies in the root, adding the displacement by table 2, the last carry dropped, gives its path
 
 module _ (D : ℕ) (d : ℕ → ℤ) (u v : ℕ) (came : Came D d u v) where
-  abbrev t : ℕ → ℕ
-  t a = twos D (d a)
-
-  -- along each axis its own displacement is added
-  summed-along : EachAxis (λ a. (l : ℕ) × (along (2 ^ a) D (summed 3 D d u) + l * 2 ^ D ≡ along (2 ^ a) D u + t a))
-  unfolding summed
-  summed-along a h =
-      let (l0, e0) = added-sum 0 (omega arith) D u (t 0) 0 (omega arith) .1 a h in
-      let (l1, e1) = added-sum 1 (omega arith) D (summed 1 D d u) (t 1) 0 (omega arith) .1 a h in
-      let (l2, e2) = added-sum 2 (omega arith) D (summed 2 D d u) (t 2) 0 (omega arith) .1 a h in
-      let all = each-axis (λ a. on (eqb 0 a) (t 0 + 0) + on (eqb 1 a) (t 1 + 0) + on (eqb 2 a) (t 2 + 0) ≡ t a) (omega arith) (omega arith) (omega arith) a h in
-      (l0 + l1 + l2, omega (arith, e0, e1, e2, all, add-mul (l0 + l1) l2 (2 ^ D), add-mul l0 l1 (2 ^ D)))
+  -- along one axis, from a voxel that stands there where u does
+  along-axis : (a : ℕ) → a < 3 → (w : ℕ) → along (2 ^ a) D w ≡ along (2 ^ a) D u → Came D (only a (d a)) w (added a D w (twos D (d a)) 0)
+  along-axis a h w e =
+      let c = twos-congruent D (d a) in
+      added-came a D w h (d a) (twos D (d a)) 0 (omega arith) (record { j = c .j; k = c .k; same = omega (arith, c .same) }) (along (2 ^ a) D v) (along-lt (2 ^ a) D v)
+      (subst (λ (x : ℕ). Displaced (d a) x (along (2 ^ a) D v)) (sym e) (came .each a h))
 
   pub sum-came : summed 3 D d u ≡ v
   unfolding summed
   sum-came =
-      same-voxel D (summed 3 D d u) v (added-sum 2 (omega arith) D (summed 2 D d u) (t 2) 0 (omega arith) .0) (came .root)
-      (λ a h.
-      let (l, e) = summed-along a h in
-      let c = twos-congruent D (d a) in
-      let m = displaced-parts (d a) (along (2 ^ a) D u) (along (2 ^ a) D v) .0 (came .each a h) in
-      congruent-equal (2 ^ D) _ _ (along-lt (2 ^ a) D (summed 3 D d u)) (along-lt (2 ^ a) D v)
-      (record { j = l + c .j; k = c .k; same = omega (arith, e, c .same, m, add-mul l (c .j) (2 ^ D)) }))
+      let first = along-axis 0 (omega arith) u refl in
+      let second = along-axis 1 (omega arith) (summed 1 D d u) (still-y D d u (summed 1 D d u) first) in
+      let third = along-axis 2 (omega arith) (summed 2 D d u) (still-z D d u (summed 1 D d u) first (summed 2 D d u) second) in
+      one-came D d u (summed 3 D d u) v (walked D d u (summed 1 D d u) first (summed 2 D d u) second (summed 3 D d u) third) came
 
 -- ---- the paths of document 000: r057 + 101 = r275 along y, and r275 + 011 = r057, its last carry lost
 

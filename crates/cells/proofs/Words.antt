@@ -1,5 +1,5 @@
 -- Depths up to the greatest, and what of a root cube fits a word of the code; shifts by three bits a level. Assumes nothing.
-use mathlib.Core.Path.{_≡_, _∙_}
+use mathlib.Core.Path.{_≡_, sym, ap, _∙_}
 use mathlib.Core.Bool.{true}
 use Prim.Native.Nat.{ℕ, _*_, _%_, _^_, _≤_, _<_}
 use native.Mathlib.Nat.{one-mul, mod-eq-of-lt, pow-le-pow-right}
@@ -37,6 +37,10 @@ module _ (D c : ℕ) (h : D ≤ deepest) (p : proper D c ≡ true) where
 
   pub end-fits : end D c < 2 ^ wordBits
   end-fits = omega (arith, within D c p, codes-fit D h)
+
+-- a test compares the bits of two signed numbers, and the bits tell the number
+pub same-bits : (x y : ℤ) → SFits w32 x → SFits w32 y → ofZ w32 x ≡ ofZ w32 y → x ≡ y
+same-bits x y f g e = sym (toZ-ofZ w32 x f) ∙ ap (toZ w32) e ∙ toZ-ofZ w32 y g
 
 -- a callee reads signed arguments back from their bits: they are the arguments
 pub signed-axes : (P : (ℕ → ℤ) → Type 0) (x y z : ℤ) → SFits w32 x → SFits w32 y → SFits w32 z

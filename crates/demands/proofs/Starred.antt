@@ -3,8 +3,7 @@ use mathlib.Core.Path.{_≡_, refl}
 use mathlib.Core.Bool.{true}
 use lib.Ieee.{ofBits}
 use Rattle.cells.specs.Cell.{level, proper, index, side, start, span, holds}
-use Rattle.cells.specs.Inner.{digitOf}
-use Rattle.cells.specs.Payeur.{under, rule, stepped, carried}
+use Rattle.cells.specs.Payeur.{digitOf, under, rule, stepped, carried}
 use Rattle.cells.specs.Place.{along, number, corner}
 use Rattle.records.specs.Count.{count}
 use Rattle.records.specs.Fault.{allFrom, early, eightAt, fault}

@@ -4,23 +4,21 @@ use mathlib.Core.Path.{_≡_, refl, sym, subst}
 use mathlib.Core.Logic.{inl, inr}
 use mathlib.Core.Bool.{Bool, true, false, not, _&&_}
 use mathlib.Core.List.{List, [], _∷_}
-use Prim.Native.Nat.{ℕ, _+_, _^_, _≤_}
+use Prim.Native.Nat.{ℕ, _^_}
 use native.Mathlib.Omega.{arith}
 use lib.Dec.{leb, ltb, eqb}
 use lib.IntN.{ℤ}
 use lib.ListN.{length}
-use borrow.Author.Tests.{leb-true, ltb-true, eqb-true, eqb-false, eq-eqb, not-true}
+use borrow.Author.Tests.{leb-true, ltb-true, eqb-false, not-true}
 use Rattle.cells.specs.Answer.{answer, given, First, Decided, alone, deepest}
-use Rattle.cells.specs.Cell.{proper, level, index}
-use Rattle.cells.specs.Inner.{digitOf, Direction}
+use Rattle.cells.specs.Cell.{proper}
 use Rattle.cells.specs.Neighbour.{NeighbourOf}
-use Rattle.cells.specs.Payeur.{stepped, carried}
+use Rattle.cells.specs.Payeur.{digitOf, directionOf}
 use Rattle.cells.specs.Place.{axes, allAxes}
 use Rattle.cells.specs.declared.Answer.{Answer}
-use Rattle.cells.proofs.Bools.{both-true, clash}
-use Rattle.cells.proofs.Decisions.{passes}
-use Rattle.cells.proofs.Directions.{numberOf, numbered}
-use Rattle.cells.proofs.NeighbourLaws.{found, missing}
+use Rattle.cells.proofs.Bools.{both-true}
+use Rattle.cells.proofs.ByTables.{toldBy, carry, address, told-by-tables}
+use Rattle.cells.proofs.Directions.{directed}
 use Rattle.cells.proofs.Places.{each-true}
 use Rattle.records.specs.Record.{black, ListOf}
 use Rattle.records.specs.Count.{count}
@@ -58,37 +56,23 @@ makes-fits op D a b o r w e =
 module _ (D c : ℕ) (d : ℕ → ℤ) where
   -- a direction that is no direction is not asked for
   abbrev isDirected : Bool
-  isDirected = allAxes (λ a. leb (digitOf (d a)) 2) && leb 1 (numberOf d)
+  isDirected = allAxes (λ a. leb (digitOf (d a)) 2) && leb 1 (directionOf d)
 
-  abbrev carry : ℕ
-  carry = carried (level D c) (index D c) (numberOf d)
-
-  abbrev beside : ℕ
-  beside = 8 ^ level D c + stepped (level D c) (index D c) (numberOf d)
-
-  abbrev inOrOut : Bool → Answer
-  inOrOut true = given beside
-  inOrOut false = answer 7 0 0
+  abbrev byTables : Answer
+  byTables = toldBy (carry D c d) (address D c d)
 
   abbrev stepsWell : Answer → Bool
-  stepsWell r = leb D deepest && (proper D c && (isDirected && sameAnswer (inOrOut (eqb carry 0)) r))
+  stepsWell r = leb D deepest && (proper D c && (isDirected && sameAnswer byTables r))
 
   steps-fits : (r : Answer) → stepsWell r ≡ true → NeighbourOf D c d r
   steps-fits r e =
-      let (h, f) = both-true (leb D deepest) (proper D c && (isDirected && sameAnswer (inOrOut (eqb carry 0)) r)) e in
-      let (p, g) = both-true (proper D c) (isDirected && sameAnswer (inOrOut (eqb carry 0)) r) f in
-      let (q, a) = both-true isDirected (sameAnswer (inOrOut (eqb carry 0)) r) g in
-      let (x, y) = both-true (allAxes (λ a. leb (digitOf (d a)) 2)) (leb 1 (numberOf d)) q in
-      let some = leb-true 1 (numberOf d) y in
-      let n : Direction d (numberOf d) = numbered d (λ a l. leb-true _ _ (each-true (λ a. leb (digitOf (d a)) 2) x a l)) in
-      subst (NeighbourOf D c d) (same-answer (inOrOut (eqb carry 0)) r a) (go (leb-true _ _ h) p n (λ z. omega arith) (eqb carry 0) refl)
-    where
-      go : D ≤ deepest → proper D c ≡ true → Direction d (numberOf d) → (numberOf d ≡ 0 → ⊥) → (t : Bool) → eqb carry 0 ≡ t → NeighbourOf D c d (inOrOut t)
-      go h p n some true z =
-          let m = found D c p d (numberOf d) n some (eqb-true _ _ z) in
-          inr (not-deep D h, inr (passes (clash p), inr (passes (λ none. none (n .good some)), inr (passes (λ none. none beside m), (beside, m, refl)))))
-      go h p n some false z =
-          inr (not-deep D h, inr (passes (clash p), inr (passes (λ none. none (n .good some)), inl (_, (missing D c p d (numberOf d) n some (λ e. clash (eq-eqb carry 0 e) z), refl), refl))))
+      let (h, f) = both-true (leb D deepest) (proper D c && (isDirected && sameAnswer byTables r)) e in
+      let (p, g) = both-true (proper D c) (isDirected && sameAnswer byTables r) f in
+      let (q, a) = both-true isDirected (sameAnswer byTables r) g in
+      let (x, y) = both-true (allAxes (λ a. leb (digitOf (d a)) 2)) (leb 1 (directionOf d)) q in
+      let some = leb-true 1 (directionOf d) y in
+      let is = directed d (λ a l. leb-true _ _ (each-true (λ a. leb (digitOf (d a)) 2) x a l)) (λ z. omega arith) in
+      subst (NeighbourOf D c d) (same-answer byTables r a) (told-by-tables D c d is (leb-true _ _ h) p)
 
 -- ---- the check
 

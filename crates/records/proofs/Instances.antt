@@ -12,12 +12,12 @@ use Rattle.cells.specs.Answer.{answer, given}
 use Rattle.cells.specs.Cell.{level, proper, index, side, start, span, holds, end}
 use Rattle.cells.specs.Place.{axes, along, corner, number}
 use Rattle.cells.specs.Neighbour.{Neighbour, NeighbourOf}
-use Rattle.cells.specs.Inner.{digitOf}
+use Rattle.cells.specs.Payeur.{digitOf}
 use Rattle.cells.specs.declared.Answer.{Answer}
 use Rattle.cells.proofs.Bools.{clash}
 use Rattle.cells.proofs.Decisions.{passes}
 use Rattle.cells.proofs.Places.{each-axis}
-use Rattle.cells.proofs.Directions.{numbered}
+use Rattle.cells.proofs.Directions.{directed}
 use Rattle.cells.proofs.Table.{at}
 use Rattle.cells.proofs.NeighbourLaws.{one-neighbour-of}
 use Rattle.cells.proofs.Instances.{west, westward, neighbour-refuses}
@@ -119,7 +119,7 @@ bigger =
 meeting : MeetingOf 2 two 67 (axes (pos 0) (pos 1) (pos 0)) (record { answer = given 1; at = 1; n = 1 })
 unfolding level proper digitOf
 meeting =
-    let d = numbered (axes (pos 0) (pos 1) (pos 0)) (each-axis _ (omega arith) (omega arith) (omega arith)) .good (λ e. omega arith) in
+    let d = directed (axes (pos 0) (pos 1) (pos 0)) (each-axis _ (omega arith) (omega arith) (omega arith)) (λ e. omega arith) in
     inr (passes (λ h. omega arith), inr (two-faultless, inr (passes (clash refl), inr (passes (λ none. none d), inr (passes (λ none. none 81 north-of), (81, north-of, bigger, refl))))))
 
 pub met-holds : MetOf 2 two (5, 0) 67 (axes (pos 0) (pos 1) (pos 0)) (10 ∷ []) (5, 4)
@@ -142,7 +142,7 @@ r1 = 9 ∷ []
 outside : (m : ℕ) → Neighbour 1 8 west m → ⊥
 unfolding level proper
 outside m n =
-    let given-m : NeighbourOf 1 8 west (given m) = inr (passes (λ h. omega arith), inr (passes (clash refl), inr (passes (λ none. none (westward .good (λ e. omega arith))), inr (passes (λ none. none m n), (m, n, refl))))) in
+    let given-m : NeighbourOf 1 8 west (given m) = inr (passes (λ h. omega arith), inr (passes (clash refl), inr (passes (λ none. none westward), inr (passes (λ none. none m n), (m, n, refl))))) in
     let e : _≡_ {A = ℕ} 0 7 = ap (λ (r : Answer). r .number) (one-neighbour-of 1 8 west _ _ given-m neighbour-refuses) in
     omega arith
 
@@ -151,4 +151,4 @@ unfolding level proper early fault
 met-refuses = record { meeting = unmet (answer 7 0 0); found = refused; codes = refl; begins = refl }
   where
     refused : MeetingOf 1 r1 8 west (unmet (answer 7 0 0))
-    refused = inr (passes (λ h. omega arith), inr (alone-good 1 9 refl 1, inr (passes (clash refl), inr (passes (λ none. none (westward .good (λ e. omega arith))), inl (_, (outside, refl), refl)))))
+    refused = inr (passes (λ h. omega arith), inr (alone-good 1 9 refl 1, inr (passes (clash refl), inr (passes (λ none. none westward), inl (_, (outside, refl), refl)))))
