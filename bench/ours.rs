@@ -3,7 +3,6 @@ use crate::plain::{Answer, Op};
 
 #[link(name = "probe", kind = "static")]
 extern "C" {
-    fn probe_neighbour(depth: u32, code: u32, dx: i32, dy: i32, dz: i32, answer: *mut u64, len: usize);
     fn probe_check(depth: u32, list: *const u32, list_len: usize, answer: *mut u64, len: usize);
     fn probe_volume(depth: u32, list: *const u32, list_len: usize, answer: *mut u64, len: usize);
     fn probe_join(depth: u32, a: *const u32, a_len: usize, b: *const u32, b_len: usize, out: *mut u32, room: usize, answer: *mut u64, len: usize);
@@ -16,6 +15,11 @@ extern "C" {
     fn probe_move(depth: u32, list: *const u32, list_len: usize, dx: i32, dy: i32, dz: i32, out: *mut u32, room: usize, answer: *mut u64, len: usize);
 }
 
+#[link(name = "cab", kind = "static")]
+extern "C" {
+    fn cab_neighbour(depth: u32, code: u32, dx: i32, dy: i32, dz: i32) -> u64;
+}
+
 /// Number, place and list out of the answer's words.
 fn told(call: impl FnOnce(*mut u64, usize)) -> Answer {
     let mut words = [0u64; 8];
@@ -23,8 +27,10 @@ fn told(call: impl FnOnce(*mut u64, usize)) -> Answer {
     Answer { number: words[0] as u32, place: words[1], list: words[2] as u32 }
 }
 
+/// The call for C, which packs the number and the place.
 pub fn neighbour(depth: u32, code: u32, d: [i32; 3]) -> Answer {
-    told(|p, n| unsafe { probe_neighbour(depth, code, d[0], d[1], d[2], p, n) })
+    let packed = unsafe { cab_neighbour(depth, code, d[0], d[1], d[2]) };
+    Answer { number: (packed >> 32) as u32, place: packed & u32::MAX as u64, list: 0 }
 }
 
 pub fn check(depth: u32, list: &[u32]) -> Answer {

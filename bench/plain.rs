@@ -35,6 +35,8 @@ fn step(mask: u32, code: u32, d: i32) -> Option<u32> {
     (code & mask != border).then_some(sum & mask | code & !mask)
 }
 
+/// Called as the archive's is, not put in the loop's place.
+#[inline(never)]
 pub fn neighbour(depth: u32, code: u32, d: [i32; 3]) -> Answer {
     if depth > 10 {
         return told(1, 0, 0);

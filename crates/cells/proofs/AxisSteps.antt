@@ -34,33 +34,34 @@ pub record Adds (a k : ℕ) (d : ℤ) (one border : ℕ) : Type 0 where
   pub ends : (x : ℕ) → x < 2 ^ k → Displaced d last x → ⊥
   pub goes : (x : ℕ) → x < 2 ^ k → (x ≡ last → ⊥) → (y : ℕ) × (y < 2 ^ k) × Displaced d x y
 
-pub adds-forth : (a k : ℕ) → Adds a k (pos 1) 1 (inEach (2 ^ a) k)
-adds-forth a k = record {
-  t = 0;
-  c = 1;
-  carry = omega arith;
-  is-one = omega (arith, spread-none a k);
-  complement = record { j = 0; k = 0; same = omega arith };
-  last = 2 ^ k - 1;
-  within = omega (arith, pow2-pos k);
-  is-border = sym (spread-all a k);
-  ends = λ x h e. omega (arith, displaced-parts (pos 1) (2 ^ k - 1) x .0 e, pow2-pos k);
-  goes = λ x h n. (x + 1, omega (arith, pow2-pos k), displaced-parts (pos 1) x (x + 1) .1 (omega arith));
-}
+module _ (a k one border : ℕ) where
+  pub adds-forth : one ≡ 1 → border ≡ inEach (2 ^ a) k → Adds a k (pos 1) one border
+  adds-forth is-one is-border = record {
+    t = 0;
+    c = 1;
+    carry = omega arith;
+    is-one = omega (arith, spread-none a k);
+    complement = record { j = 0; k = 0; same = omega arith };
+    last = 2 ^ k - 1;
+    within = omega (arith, pow2-pos k);
+    is-border = is-border ∙ sym (spread-all a k);
+    ends = λ x h e. omega (arith, displaced-parts (pos 1) (2 ^ k - 1) x .0 e, pow2-pos k);
+    goes = λ x h n. (x + 1, omega (arith, pow2-pos k), displaced-parts (pos 1) x (x + 1) .1 (omega arith));
+  }
 
-pub adds-back : (a k : ℕ) → Adds a k (negsuc 0) (inEach (2 ^ a) k) 0
-adds-back a k = record {
-  t = 2 ^ k - 1;
-  c = 0;
-  carry = omega arith;
-  is-one = omega (arith, spread-all a k);
-  complement = record { j = 0; k = 1; same = omega (arith, pow2-pos k) };
-  last = 0;
-  within = pow2-pos k;
-  is-border = sym (spread-none a k);
-  ends = λ x h e. omega (arith, displaced-parts (negsuc 0) 0 x .0 e);
-  goes = λ x h n. (x - 1, omega arith, displaced-parts (negsuc 0) x (x - 1) .1 (omega arith));
-}
+  pub adds-back : one ≡ inEach (2 ^ a) k → border ≡ 0 → Adds a k (negsuc 0) one border
+  adds-back is-one is-border = record {
+    t = 2 ^ k - 1;
+    c = 0;
+    carry = omega arith;
+    is-one = omega (arith, spread-all a k);
+    complement = record { j = 0; k = 1; same = omega (arith, pow2-pos k) };
+    last = 0;
+    within = pow2-pos k;
+    is-border = is-border ∙ sym (spread-none a k);
+    ends = λ x h e. omega (arith, displaced-parts (negsuc 0) 0 x .0 e);
+    goes = λ x h n. (x - 1, omega arith, displaced-parts (negsuc 0) x (x - 1) .1 (omega arith));
+  }
 
 -- ---- the step in a word of w bits
 
@@ -76,7 +77,7 @@ module _ (w a k i code mask : ℕ) (fits : code < 2 ^ w) (on : OnAxis a k i code
 
   -- the bits of the axis
   here : bitAnd code mask ≡ spread a k (along (2 ^ a) k i)
-  here = rw (on .is-code, on .is-mask) (masked w (room .0) k i a (room .1) (room .2) (on .labels) (on .axis))
+  here = rw (on .is-code, on .is-mask) (masked k i a (on .labels) (on .axis))
 
   -- they are those of the border just where the cell stands last
   at-last : bitAnd code mask ≡ border → along (2 ^ a) k i ≡ adds .last
@@ -95,7 +96,7 @@ module _ (w a k i code mask : ℕ) (fits : code < 2 ^ w) (on : OnAxis a k i code
   step-stays n =
       let J : ℕ = added a k i (adds .t) (adds .c) in
       let is : bitOr (bitAnd ((bitOr code (2 ^ w - 1 - mask) + one) % 2 ^ w) mask) (bitAnd code (2 ^ w - 1 - mask)) ≡ 8 ^ k + J =
-      rw (on .is-code, on .is-mask, adds .is-one) (dilated w (room .0) k i a (room .1) (room .2) (on .labels) (on .axis) (adds .t) (adds .c) (adds .carry)) in
+      rw (on .is-code, on .is-mask, adds .is-one) (dilated k i a (on .labels) (on .axis) w (room .0) (room .1) (room .2) (adds .t) (adds .c) (adds .carry)) in
       let (y, low, to) = adds .goes (along (2 ^ a) k i) (along-lt (2 ^ a) k i) (not-last n) in
       record { leaves = λ z. absurd (omega (arith, pow8-pos k)); stays = λ _. (J, is, added-came a k i (on .axis) d (adds .t) (adds .c) (adds .carry) (adds .complement) y low to) }
 

@@ -188,16 +188,16 @@ module _ (m K i M N s : ℕ) (some : 0 < m) (low : i < 2 ^ K) (both : M + N + 1 
       ∙ or-block K 0 1 A C (lt-of-le-of-lt (and-le-r (bitOr i N + s) M) (omega arith)) (lt-of-le-of-lt (and-le-r i N) (omega arith))
       ∙ omega arith
 
--- ---- a code of k labels i in a word of w bits
+-- ---- a code of k labels i
 
-module _ (w m k i a : ℕ) (wide : m + 3 * k ≡ w) (some : 0 < m) (labels : i < 8 ^ k) (axis : a < 3) where
+module _ (k i a : ℕ) (labels : i < 8 ^ k) (axis : a < 3) where
   abbrev M : ℕ
   M = inEach (2 ^ a) k
 
-  -- THE LAW: the sum on the bits of the axis, the other bits filled, is document 000's sum along that axis
-  pub dilated : (t c : ℕ) → c < 2
+  -- THE LAW, in a word of w bits: the sum on the bits of the axis, the other bits filled, is document 000's sum along that axis
+  pub dilated : (w m : ℕ) → m + 3 * k ≡ w → 0 < m → (t c : ℕ) → c < 2
       → bitOr (bitAnd ((bitOr (8 ^ k + i) (2 ^ w - 1 - M) + (spread a k t + c)) % 2 ^ w) M) (bitAnd (8 ^ k + i) (2 ^ w - 1 - M)) ≡ 8 ^ k + added a k i t c
-  dilated t c h =
+  dilated w m wide some t c h =
       rw (← wide, ← pow8-bits k)
       (word-added m (3 * k) i M (inEach (7 - 2 ^ a) k) (spread a k t + c) some (rw pow8-bits labels) (both-bits a axis k ∙ sym (pow8-bits k))
       ∙ ap (λ (x : ℕ). 2 ^ (3 * k) + x) (labels-added a axis k i t c h))

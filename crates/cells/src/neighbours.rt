@@ -56,9 +56,11 @@ fn is_direction(dx: i32, dy: i32, dz: i32) -> bool
 }
 
 // One step along one axis. `mask` has the axis's bit in each label of the code: the labels 11..1 for x, 22..2 for y, 44..4 for z.
-// All other bits are filled with ones, so that a carry runs through them from one label's bit of the axis to the next; then the step is added: 1, or back the
-// two's complement of one, which is all bits of the axis. Of the sum the axis's bits are taken, and the other bits stay. At the root's border the axis's
-// bits are all 1 (forth) or all 0 (back): then the step leaves the root, and the answer is 0, which is no code. For r742 by (-1, +1, +1), in labels:
+// - At the root's border the axis's bits are all 1 (forth) or all 0 (back): the step leaves the root, and the answer is 0, which is no code.
+// - All other bits are filled with ones, so that a carry runs through them from the axis's bit of a label to that of the label before.
+// - The step is added: forth 1, back the two's complement of one, which is all bits of the axis.
+// - Of the sum the axis's bits are taken; the other bits stay as they were.
+// So r742 by (-1, +1, +1), in labels:
 //     x back:   742 filled is 766, and 766 + 111 = 1077, whose x bits are 011; with the other bits of 742 that is 653
 //     y forth:  653 filled is 757, and 757 + 1 = 760, whose y bits are 220; with the other bits of 653 that is 671
 //     z forth:  671 filled is 773, and 773 + 1 = 774, whose z bits are 444; with the other bits of 671 that is 675
@@ -82,7 +84,8 @@ fn step(mask: u32, code: u32, d: i32) -> u32
 }
 
 // The cell of the same level displaced by its own side: 1 for the depth, 6 for the code (place 0) or the direction (place 1), 7 outside the root.
-// The x bit of each label stands at a place 3k, and so does the code's leading one; the mask ends before it.
+// A step along x, then y, then z. The code's leading one stands at a place 3k, as the x bit of each label does: the masks end before it. The root has no label, so
+// its masks are 0 and each step leaves it.
 pub fn neighbour(depth: u32, code: u32, dx: i32, dy: i32, dz: i32) -> Answer
     ensures { λ r. ⌜ NeighbourOf depth code (axes dx dy dz) r ⌝ }
 {

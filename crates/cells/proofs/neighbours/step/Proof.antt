@@ -1,5 +1,5 @@
 -- `cells::neighbours::step` meets its contract. What is added, and the border, are those of the step (`Adds` of AxisSteps). Assumes nothing.
-use mathlib.Core.Path.{_≡_, sym, ap, subst}
+use mathlib.Core.Path.{_≡_, sym, ap, _∙_, subst}
 use mathlib.Core.Logic.{⊎-elim}
 use Prim.Native.Nat.{ℕ}
 use borrow.Author.Needs.{needs}
@@ -34,8 +34,14 @@ module _ (c : tie.Joined2) where
 
   adds : (a k i : ℕ) → OnAxis a k i (start .args .code) (start .args .mask) → IsStep d → Adds a k d (c .if2 .one) (c .if2 .border)
   adds a k i on is =
-      ⊎-elim (λ w. let e : d ≡ negsuc 0 = same-bits d (negsuc 0) (start .fits .d) (record { sfits = omega arith }) (w .0 .taken) in rw (e, w .1, w .2, on .is-mask) (adds-back a k))
-      (λ w. let e = is-forth d is (c .before .if1 .left) (w .0 .left) in rw (e, w .1, w .2, on .is-mask) (adds-forth a k)) (c .if2 .came)
+      ⊎-elim
+      (λ w.
+      let e = same-bits d (negsuc 0) (start .fits .d) (record { sfits = omega arith }) (w .0 .taken) in
+      subst (λ (z : ℤ). Adds a k z (c .if2 .one) (c .if2 .border)) (sym e) (adds-back a k (c .if2 .one) (c .if2 .border) (w .1 ∙ on .is-mask) (w .2)))
+      (λ w.
+      let e = is-forth d is (c .before .if1 .left) (w .0 .left) in
+      subst (λ (z : ℤ). Adds a k z (c .if2 .one) (c .if2 .border)) (sym e) (adds-forth a k (c .if2 .one) (c .if2 .border) (w .1) (w .2 ∙ on .is-mask)))
+      (c .if2 .came)
 
 returns-2 : tie.Need-returns-2
 returns-2 c a k i on is =
