@@ -88,6 +88,15 @@ pub fn all(run: &mut Run) {
             }
         }
     }
+    // at every level the cells whose labels are all alike, where a carry runs through all of them
+    for level in 0..11 {
+        for label in 0..8 {
+            let alike = (0..level).fold(1, |code, _| code * 8 + label);
+            for d in directions() {
+                neighbour(run, 8, 10, alike, d);
+            }
+        }
+    }
     // random ones at every depth, refused depths among them, with answer buffers of every kind
     for _ in 0..run.cases {
         let n = run.one_of(&LENGTHS);
