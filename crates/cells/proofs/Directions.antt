@@ -28,14 +28,6 @@ step-digit (inl e) = omega (arith, ap digitOf e)
 step-digit (inr (inl e)) = omega (arith, ap digitOf e)
 step-digit (inr (inr e)) = omega (arith, ap digitOf e)
 
-no-digit : (z : ℤ) → digitOf z ≡ 0 → z ≡ pos 0
-unfolding digitOf
-no-digit (pos zero) e = refl
-no-digit (pos (suc zero)) e = absurd (omega arith)
-no-digit (pos (suc (suc n))) e = absurd (omega arith)
-no-digit (negsuc zero) e = absurd (omega arith)
-no-digit (negsuc (suc n)) e = absurd (omega arith)
-
 -- the digit is the step with one added
 pub forth-step : (z : ℤ) → digitOf z ≤ 2 → above z + 1 ≡ forth (digitOf z) + below z
 unfolding digitOf
@@ -59,7 +51,6 @@ module _ (d : ℕ → ℤ) where
 -- the number of a direction: its digits are the steps
 pub record Digits (d : ℕ → ℤ) : Type 0 where
   pub small : directionOf d < 27
-  pub some : directionOf d ≡ 0 → ⊥
   pub each : EachAxis (λ a. digitOf (d a) ≡ directionOf d / 3 ^ a % 3)
 
 pub digits : (d : ℕ → ℤ) → IsDirection d → Digits d
@@ -69,6 +60,5 @@ digits d is =
     let z = step-digit (is .steps 2 (omega arith)) in
     record {
       small = omega arith;
-      some = λ e. is .some (each-axis _ (no-digit (d 0) (omega arith)) (no-digit (d 1) (omega arith)) (no-digit (d 2) (omega arith)));
       each = each-axis _ (omega arith) (omega arith) (omega arith);
     }

@@ -84,11 +84,6 @@ module _ (c : tie.Else3) where
 
 -- ---- the three steps: a mask of each axis, and where the cell comes to stand
 
--- what `step` tells of a step that it reads back from the bits
-took : (z : ℤ) (code mask r : ℕ) → SFits w32 z → ((a k i : ℕ) → OnAxis a k i code mask → IsStep (toZ w32 (ofZ w32 z)) → OneStep a k i (toZ w32 (ofZ w32 z)) r)
-    → (a k i : ℕ) → OnAxis a k i code mask → IsStep z → OneStep a k i z r
-took z code mask r f e = rw (toZ-ofZ w32 z f) at e
-
 module _ (c : tie.After-pow8) where
   abbrev else3 : tie.Else3
   else3 = c .before .before
@@ -102,9 +97,13 @@ module _ (c : tie.After-pow8) where
   ones-is : ones ≡ inEach 1 (k here)
   ones-is = let e : c .pow8 .result ≡ 8 ^ k here = c .pow8 .ensures ∙ ap (λ (n : ℕ). 8 ^ n) (c .before .level-of .ensures) in omega (arith, each-one (k here))
 
-  -- the cell j of the level, and the mask of axis a
-  on-axis : (a : ℕ) → a < 3 → (j m mask : ℕ) → j < 8 ^ k here → m ≡ 8 ^ k here + j → mask ≡ 2 ^ a * ones → OnAxis a (k here) j m mask
-  on-axis a h j m mask low e f = record { axis = h; labels = low; is-code = e; is-mask = f ∙ ap (λ (n : ℕ). 2 ^ a * n) ones-is ∙ sym (each-times (2 ^ a) (k here)) }
+  -- `step` with the mask of axis a, from the cell j of the level, gave r; it reads the step back from the bits
+  took : (a : ℕ) → a < 3 → (j m mask r : ℕ) → j < 8 ^ k here → m ≡ 8 ^ k here + j → mask ≡ 2 ^ a * ones → SFits w32 (steps here a)
+      → ((b n v : ℕ) → OnAxis b n v m mask → IsStep (toZ w32 (ofZ w32 (steps here a))) → OneStep b n v (toZ w32 (ofZ w32 (steps here a))) r)
+      → OneStep a (k here) j (steps here a) r
+  took a h j m mask r low is-m is-mask fits ensures =
+      let on : OnAxis a (k here) j m mask = record { axis = h; labels = low; is-code = is-m; is-mask = is-mask ∙ ap (λ (n : ℕ). 2 ^ a * n) ones-is ∙ sym (each-times (2 ^ a) (k here)) } in
+      (rw (toZ-ofZ w32 (steps here a) fits) at ensures) a (k here) j on (good else3 .steps a h)
 
 module _ (c : tie.After-step) where
   abbrev of-x : tie.After-is-direction
@@ -112,9 +111,8 @@ module _ (c : tie.After-step) where
 
   step-x : OneStep 0 (k of-x) (i of-x) (steps of-x 0) (c .step .result)
   step-x =
-      took (steps of-x 0) (code of-x) (ones (c .before)) (c .step .result) (start of-x .fits .dx) (c .step .ensures) 0 (k of-x) (i of-x)
-      (on-axis (c .before) 0 (omega arith) (i of-x) (code of-x) (ones (c .before)) (index-lt (D of-x) (code of-x) (is of-x)) (code-is (D of-x) (code of-x) (is of-x)) (omega arith))
-      (good (else3 (c .before)) .steps 0 (omega arith))
+      took (c .before) 0 (omega arith) (i of-x) (code of-x) (ones (c .before)) (c .step .result)
+      (index-lt (D of-x) (code of-x) (is of-x)) (code-is (D of-x) (code of-x) (is of-x)) (omega arith) (start of-x .fits .dx) (c .step .ensures)
 
 module _ (c : tie.After-step2) where
   abbrev at-step : tie.After-step
@@ -129,9 +127,8 @@ module _ (c : tie.After-step2) where
 
   step-y : OneStep 1 (k of-y) (past-x .0) (steps of-y 1) (c .step2 .result)
   step-y =
-      took (steps of-y 1) (at-step .step .result) (2 * ones (at-step .before)) (c .step2 .result) (start of-y .fits .dy) (c .step2 .ensures) 1 (k of-y) (past-x .0)
-      (on-axis (at-step .before) 1 (omega arith) (past-x .0) (at-step .step .result) (2 * ones (at-step .before)) (past-x .2 .root) (past-x .1) refl)
-      (good (else3 (at-step .before)) .steps 1 (omega arith))
+      took (at-step .before) 1 (omega arith) (past-x .0) (at-step .step .result) (2 * ones (at-step .before)) (c .step2 .result)
+      (past-x .2 .root) (past-x .1) refl (start of-y .fits .dy) (c .step2 .ensures)
 
 module _ (c : tie.After-step3) where
   abbrev at-step2 : tie.After-step2
@@ -146,9 +143,8 @@ module _ (c : tie.After-step3) where
 
   step-z : OneStep 2 (k of-z) (past-y .0) (steps of-z 2) (c .step3 .result)
   step-z =
-      took (steps of-z 2) (at-step2 .step2 .result) (4 * ones (at-step (at-step2) .before)) (c .step3 .result) (start of-z .fits .dz) (c .step3 .ensures) 2 (k of-z) (past-y .0)
-      (on-axis (at-step at-step2 .before) 2 (omega arith) (past-y .0) (at-step2 .step2 .result) (4 * ones (at-step at-step2 .before)) (past-y .2 .root) (past-y .1) refl)
-      (good (else3 (at-step at-step2 .before)) .steps 2 (omega arith))
+      let from = at-step at-step2 .before in
+      took from 2 (omega arith) (past-y .0) (at-step2 .step2 .result) (4 * ones from) (c .step3 .result) (past-y .2 .root) (past-y .1) refl (start of-z .fits .dz) (c .step3 .ensures)
 
 -- ---- the answers past the direction's test
 
