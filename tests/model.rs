@@ -317,7 +317,7 @@ pub fn move_of(depth: u32, list: &[u32], d: [i32; 3], room: usize) -> (Answer, V
     shift_of(depth, list, [d[0] as i64, d[1] as i64, d[2] as i64], room)
 }
 
-/// The whole number nearest to d x 2^s, a half going up, over the exact value of d, taken from the bits of the float; none outside signed 32 bits.
+/// The whole number nearest to d x 2^s, a half going away from zero, over the exact value of d, taken from the bits of the float; none outside signed 32 bits.
 pub fn nearest(d: f64, s: u32) -> Option<i32> {
     let bits = d.to_bits();
     let exponent = (bits >> 52 & 0x7ff) as i32;
@@ -325,25 +325,21 @@ pub fn nearest(d: f64, s: u32) -> Option<i32> {
     if exponent == 0x7ff {
         return None;
     }
-    // d is mantissa x 2^power
+    // the size of d x 2^s is mantissa x 2^power
     let (mantissa, power) = if exponent == 0 { (fraction, -1074) } else { (fraction | 1 << 52, exponent - 1075) };
-    // twice d x 2^s, as a whole number of halves with what is lost remembered: floor(2 d 2^s)
-    let shift = power + s as i32 + 1;
-    let (halves, lost): (u128, bool) = if mantissa == 0 {
-        (0, false)
-    } else if shift >= 0 {
-        if shift > 60 {
-            return None;
-        }
-        ((mantissa as u128) << shift, false)
-    } else if shift <= -64 {
-        (0, true)
+    let power = power + s as i32;
+    let size: u128 = if power > 60 {
+        return None;
+    } else if power >= 0 {
+        (mantissa as u128) << power
+    } else if power < -60 {
+        0
     } else {
-        ((mantissa >> -shift) as u128, mantissa & ((1u64 << -shift) - 1) != 0)
+        // the whole voxels, and one more where the rest is at least a half
+        let rest = mantissa & ((1u64 << -power) - 1);
+        (mantissa >> -power) as u128 + (rest >= 1u64 << (-power - 1)) as u128
     };
-    let down = if bits >> 63 == 1 { -(halves as i128) - lost as i128 } else { halves as i128 };
-    // n is floor((2 d 2^s + 1) / 2), and a floor of a floor is a floor
-    let n = (down + 1).div_euclid(2);
+    let n = if bits >> 63 == 1 { -(size as i128) } else { size as i128 };
     i32::try_from(n).ok()
 }
 

@@ -46,7 +46,49 @@ fn coordinate(run: &mut Run, s: u32) -> f64 {
     }
 }
 
+/// The float one bit larger in size, and the one smaller.
+fn beside(d: f64) -> [f64; 2] {
+    [f64::from_bits(d.to_bits() + 1), f64::from_bits(d.to_bits() - 1)]
+}
+
+/// A coordinate along each axis, of a voxel in the middle of the root, which shows where it goes, and of the empty list, which takes every whole move.
+fn along_each(run: &mut Run, d: f64, s: u32) {
+    for axis in 0..3 {
+        let mut m = [0.0; 3];
+        m[axis] = d;
+        metres(run, 8, 1, 10, &[0x7800_0000], m, s);
+        metres(run, 8, 1, 10, &[], m, s);
+    }
+}
+
+/// Each edge number: halves of both signs and the floats beside them; both ends of the range; zeros and the floats too small to have all their bits.
+fn edges(run: &mut Run) {
+    for s in 0..=10u32 {
+        let voxel = 1.0 / (1u64 << s) as f64;
+        for whole in (0..12).map(f64::from).chain([255.0, 511.0, 65535.0, 1073741823.0, 2147483646.0, 2147483647.0, 2147483648.0]) {
+            for half in [(whole + 0.5) * voxel, -(whole + 0.5) * voxel] {
+                along_each(run, half, s);
+                beside(half).into_iter().for_each(|d| along_each(run, d, s));
+            }
+        }
+        for bits in [0, 1, 2, (1 << 52) - 1, 1 << 52] {
+            along_each(run, f64::from_bits(bits), s);
+            along_each(run, -f64::from_bits(bits), s);
+        }
+    }
+}
+
+/// A record moved over by metres, and what stands then moved back by the negated metres, is the record itself.
+fn over_and_back(run: &mut Run, depth: u32, list: &[u32], d: [f64; 3], s: u32) {
+    if list.is_empty() || model::metres_of(depth, list, d, s, 4096).0.number != 0 {
+        return;
+    }
+    let back = link::shift_metres(8, 4096, depth, list, d, s).and_then(|(_, there)| link::shift_metres(8, 4096, depth, &there, d.map(|x| -x), s));
+    run.same(|| format!("over and back {depth} {list:?} {d:?} metres, s {s}"), back, Ok((Some(link::answer(0, list.len() as u64, 0)), list.to_vec())));
+}
+
 pub fn all(run: &mut Run) {
+    edges(run);
     // every move by -2^D - 1 .. 2^D + 1 along each axis at depths 0 to 2, on sets of every kind
     for depth in 0..3u32 {
         let reach = (1i32 << depth) + 1;
@@ -92,5 +134,15 @@ pub fn all(run: &mut Run) {
         let m = [coordinate(run, s), coordinate(run, s), coordinate(run, s)];
         metres(run, n, room, depth, &list, m, s);
         metres(run, n, room, depth, &[], m, s);
+    }
+    // over and back by so many halves of a voxel
+    for _ in 0..run.cases {
+        let depth = run.one_of(&[1, 2, 3, 4, 10, 10]);
+        let most = run.one_of(&[1, 2, 8]);
+        let list = movable(run, depth, most);
+        let s = run.below(11) as u32;
+        let far = run.one_of(&[2, 4, 64]);
+        let m = [0; 3].map(|_: u32| (run.below(2 * far + 1) as f64 - far as f64) / (2u64 << s) as f64);
+        over_and_back(run, depth, &list, m, s);
     }
 }

@@ -8,6 +8,8 @@ pub mod Moves
 pub mod Distributes
 pub mod Volumes
 pub mod Room
+-- ticket 3: a record sent over by metres and back
+pub mod OverAndBack
 -- calls worked out, and the checked examples of document 01
 pub mod Agreement
 pub mod WorkedMoves

@@ -1,7 +1,7 @@
 -- The checked examples of document 01, gathered in one table under one claim: each row fits the definition that is the call's contract. Assumes nothing.
 use mathlib.Core.Path.{_≡_, refl}
 use mathlib.Core.Bool.{true}
-use lib.Ieee.{ofBits}
+use lib.Ieee.{neg, ofBits}
 use Rattle.cells.specs.Cell.{level, proper, index, side, start, span, holds}
 use Rattle.cells.specs.Payeur.{digitOf, under, rule, stepped, carried}
 use Rattle.cells.specs.Place.{along, number, corner}
@@ -18,7 +18,7 @@ use Rattle.demands.specs.Examples.{Fits, All, table}
 use Rattle.demands.proofs.Worked.{allWork, all-fit}
 
 all-work : allWork table ≡ true
-unfolding level proper index side start span holds digitOf under rule stepped carried along number corner count allFrom early eightAt fault black upto leaves goodList both rounded ofBits sumLabel carryLabel shift shifted keepsAlong leafKeeps turned back
+unfolding level proper index side start span holds digitOf under rule stepped carried along number corner count allFrom early eightAt fault black upto leaves goodList both rounded neg ofBits sumLabel carryLabel shift shifted keepsAlong leafKeeps turned back
 all-work = refl
 
 pub starred : All Fits table

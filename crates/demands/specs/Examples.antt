@@ -1,4 +1,4 @@
--- The checked examples of document 01 as rows: a call with its inputs, and what it leaves. A row that has a star there stands with its whole bullet.
+-- The checked examples of document 01, with ticket 3's, as rows: a call with its inputs, and what it leaves. A row that has a star there stands with its whole bullet.
 -- Definitions only.
 use mathlib.Core.List.{List, [], _∷_}
 use mathlib.Core.Path.{_≡_}
@@ -16,8 +16,11 @@ use Rattle.sets.specs.declared.Op.{Op}
 use Rattle.sets.specs.declared.Op.the-variants.{Join, Subtract}
 use Rattle.sets.specs.Sets.{SetOf}
 use Rattle.metres.specs.Metres.{Becomes}
+use Rattle.metres.specs.Opposite.{opposite}
+use Rattle.metres.specs.declared.Metres.{Metres}
 use Rattle.metres.specs.declared.Move.{Move}
-use Rattle.metres.specs.declared.Move.the-variants.{Voxels, Metres}
+use Rattle.metres.specs.declared.Move.the-variants.{Voxels}
+use Rattle.metres.specs.declared.Move.the-variants as the-move
 use Rattle.moves.specs.Moves.{MoveOf}
 
 pub data Row : Type 0 where
@@ -75,9 +78,8 @@ abbrev pub north : ℤ → Move
 north d = Voxels (pos 0) d (pos 0)
 
 -- 0.0625, -0.0625 and 0.1875 metres, in voxels of an eighth of a metre
-abbrev sixteenths : Move
-sixteenths =
-    Metres (record { x = ofBits binary64 0x3fb0_0000_0000_0000; y = ofBits binary64 0xbfb0_0000_0000_0000; z = ofBits binary64 0x3fc8_0000_0000_0000; s = 3 })
+abbrev sixteenths : Metres
+sixteenths = record { x = ofBits binary64 0x3fb0_0000_0000_0000; y = ofBits binary64 0xbfb0_0000_0000_0000; z = ofBits binary64 0x3fc8_0000_0000_0000; s = 3 }
 
 abbrev pub table : List Row
 table =
@@ -100,6 +102,8 @@ table =
     ∷ makes Join 1 (8 ∷ 9 ∷ 10 ∷ 11 ∷ []) (12 ∷ 13 ∷ 14 ∷ 15 ∷ []) 1 (given 1) root  -- *
     ∷ makes Subtract 3 root r057 21 (given 21) rest  -- *
     ∷ measures 3 rest (given 511)  -- *
-    ∷ becomes sixteenths (pos 1) (pos 0) (pos 2)  -- *
-    ∷ moves 3 r057 sixteenths 1 (given 1) (838 ∷ [])  -- r506
+    ∷ becomes (the-move.Metres sixteenths) (pos 1) (negsuc 0) (pos 2)  -- * ticket 3: -0.0625 gives -1
+    ∷ becomes (the-move.Metres (opposite sixteenths)) (negsuc 0) (pos 1) (negsuc 1)  -- and -0.1875 gives -2
+    ∷ moves 3 r057 (the-move.Metres sixteenths) 1 (given 1) (836 ∷ [])  -- r504
+    ∷ moves 3 (836 ∷ []) (the-move.Metres (opposite sixteenths)) 1 (given 1) r057
     ∷ []

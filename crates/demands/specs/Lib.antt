@@ -1,5 +1,7 @@
 -- what demands 1 and 3 ask
 pub mod Laws
+-- a record sent over by metres and back: ticket 3
+pub mod OverAndBack
 -- calls that are none of the library's
 pub mod Impostors
 -- the examples of document 01

@@ -35,6 +35,33 @@ fn metres_x(name: &[u8], x: f64, y: f64, s: u32) {
     print::end();
 }
 
+// Over in metres along x and back by the negated metres, under a name: the voxel of depth 10 in the middle of the root, and where it stands then.
+fn over_and_back(name: &[u8], x: f64, s: u32) {
+    let mut there = [0u32; 1];
+    let mut back = [0u32; 1];
+    let list = [2013265920u32];
+    let over = Metres {
+        x,
+        y: 0.0,
+        z: 0.0,
+        s,
+    };
+    let opposite = Metres {
+        x: -x,
+        y: -0.0,
+        z: -0.0,
+        s,
+    };
+    move_list(10, &list, Move::Metres(over), &mut there);
+    let r = move_list(10, &there, Move::Metres(opposite), &mut back);
+    print::text(b"over and back ");
+    print::text(name);
+    print::number(s as u64);
+    print::answer(r);
+    print::front(r, &back);
+    print::end();
+}
+
 fn published() {
     // r057 by y: +5 gives r275, back r057, +1 gives r075, +6 is accepted, +7 leaves; -1 gives r055, -2 leaves
     whole(3, &[559], 0, 5, 0, 1);
@@ -73,10 +100,14 @@ pub fn run() {
 }
 
 fn rounded() {
-    // a half goes up
+    // a half goes away from zero
     metres_x(b"0.0625", 0.0625, 0.0, 3);
     metres_x(b"-0.0625", -0.0625, 0.0, 3);
     metres_x(b"0.1875", 0.1875, 0.0, 3);
+    metres_x(b"-0.1875", -0.1875, 0.0, 3);
+    // so a record that goes over and back stands where it stood
+    over_and_back(b"0.0625", 0.0625, 3);
+    over_and_back(b"-0.1875", -0.1875, 3);
     // minus zero and the smallest floats give 0
     metres_x(b"-0.0", -0.0, 0.0, 3);
     metres_x(b"5e-324", 5e-324, 0.0, 3);
@@ -96,6 +127,7 @@ fn range_ends() {
     // the ends of the range: the rounded number is tested; one that is in range leaves the root
     metres_x(b"2147483647", 2147483647.0, 0.0, 0);
     metres_x(b"2147483647.5", 2147483647.5, 0.0, 0);
+    metres_x(b"-2147483648.4999995", -2147483648.4999995, 0.0, 0);
     metres_x(b"-2147483648.5", -2147483648.5, 0.0, 0);
     metres_x(b"-2147483649", -2147483649.0, 0.0, 0);
 }

@@ -12,12 +12,11 @@ use mathlib.Core.Bool.{Bool, true, false, true≢false, false≢true}
 use lib.IntN.{ℤ, pos}
 use lib.Dec.{T, ltb→lt, lt→ltb}
 use lib.Pow.{pow-mono}
-use borrow.Author.Tests.{ltb-true, ltb-false, le-ltb}
+use borrow.Author.Tests.{ltb-true, ltb-false}
 use lib.Ieee.{Float, nan, inf, fin, up, down, lt, ne, neg}
 use lib.Ieee.Fits.{down-pos}
 use lib.Ieee.Compare.{differs-from-itself, nan-differs}
 use lib.Ieee.Positive.{positive, num, den, first-pos}
-use Rattle.metres.specs.declared.inner.Halves.{Halves}
 use Rattle.metres.specs.declared.inner.Coordinate.the-variants.{Voxels, Bad}
 use Rattle.metres.specs.Metres.{Nearest}
 use Rattle.metres.specs.Inner.{Rounded, Measured, sizeOf, fitted, withSign}
@@ -59,11 +58,11 @@ beyond s false (inf false) p q = λ n w. w .0
 beyond s t (fin true m e) p q = absurd p
 beyond s t (fin false m e) p q = let h = ltb-false (m * up e * 1) (1 * 2 ^ 32 * down e) q in rw (with-sign t m e) (far-is-bad s t m e (omega arith))
 
-pub measured-rounded : (s : ℕ) (t : Bool) (a : Float) (h : Halves) → T (positive a) → Measured s a h → Rounded s (withSign t a) (fitted t (sizeOf t (h .whole) (h .over)))
-measured-rounded s t nan h p r = absurd p
-measured-rounded s t (inf u) h p r = absurd p
-measured-rounded s t (fin true m e) h p r = absurd p
-measured-rounded s t (fin false m e) h p r = rw (with-sign t m e) (rounded-fitted s (fin t m e) t _ (nearest-size s t m e (h .whole) (h .over) (r .least) (r .most) (r .over)))
+pub measured-rounded : (s : ℕ) (t : Bool) (a : Float) (w : ℕ) → T (positive a) → Measured s a w → Rounded s (withSign t a) (fitted t (sizeOf w))
+measured-rounded s t nan w p r = absurd p
+measured-rounded s t (inf u) w p r = absurd p
+measured-rounded s t (fin true m e) w p r = absurd p
+measured-rounded s t (fin false m e) w p r = rw (with-sign t m e) (rounded-fitted s (fin t m e) t _ (nearest-size s t m e w (r .least) (r .most)))
 
 -- ---- -d
 pub neg-neg : (d : Float) → neg (neg d) ≡ d
@@ -92,11 +91,11 @@ pub not-a-number : (s : ℕ) (d : Float) → ne d d ≡ true → Rounded s d Bad
 unfolding Rounded Nearest
 not-a-number s d p = subst (λ (x : Float). Rounded s x Bad) (sym (differs-from-itself d (subst T (sym p) tt))) (λ n w. w .0)
 
-zero-rounded : (s : ℕ) (t : Bool) (m : ℕ) (e : ℤ) → m * up e ≡ 0 → Rounded s (fin t m e) (fitted t (sizeOf t 0 false))
+zero-rounded : (s : ℕ) (t : Bool) (m : ℕ) (e : ℤ) → m * up e ≡ 0 → Rounded s (fin t m e) (fitted t (sizeOf 0))
 zero-rounded s t m e z =
     let size : 2 * (m * up e) * 2 ^ s ≡ 0 = rw z (zero-mul (2 ^ s)) in
     let none = zero-mul (down e) in
-    rounded-fitted s (fin t m e) t _ (nearest-size s t m e 0 false (omega arith) (omega (arith, down-pos e)) (sym (le-ltb (0 * down e) (2 * (m * up e) * 2 ^ s) (omega arith))))
+    rounded-fitted s (fin t m e) t _ (nearest-size s t m e 0 (omega arith) (omega (arith, down-pos e)))
 
 pub is-zero : (s : ℕ) (d : Float) → ne d d ≡ false → lt nought d ≡ false → lt d nought ≡ false → Rounded s d (Voxels (pos 0))
 unfolding lt

@@ -5,4 +5,6 @@ pub mod Floats
 pub mod Coordinates
 -- the outcome of a move, and how it decides in a call above
 pub mod TakenLaws
+-- d and -d
+pub mod Opposites
 pub mod Examples

@@ -25,7 +25,7 @@ pub in32-bounds : (n : ℤ) → In32 n → (above n < 2 ^ 31) × (below n ≤ 2 
 in32-bounds (pos a) h = let u = lt→ (pos a) (pos (2 ^ 31)) (h .1) in (omega arith, omega arith)
 in32-bounds (negsuc a) h = let l = le→ (negℤ (pos (2 ^ 31))) (negsuc a) (h .0) in (omega arith, omega arith)
 
-in32-yes : (t : Bool) (k : ℕ) → T (inRange t k) → In32 (signed t k)
+pub in32-yes : (t : Bool) (k : ℕ) → T (inRange t k) → In32 (signed t k)
 in32-yes false k h = let g = ltb→lt k (2 ^ 31) h in (record { le = tt }, →lt (pos k) (pos (2 ^ 31)) (omega arith))
 in32-yes true k h =
     let g = leb→le k (2 ^ 31) h in
@@ -63,14 +63,21 @@ rounded-fitted s d t k h = go (inRange t k) (in32-yes t k) (in32-no t k)
 unfoldable pub rounded : ℕ → Float → Coordinate
 rounded s nan = Bad
 rounded s (inf t) = Bad
-rounded s (fin t m e) = fitted t (sizeAt s t m e)
+rounded s (fin t m e) = fitted t (sizeAt s m e)
 
 pub rounded-exists : (s : ℕ) (d : Float) → Rounded s d (rounded s d)
 unfolding Rounded rounded Nearest
 rounded-exists s nan = λ n w. w .0
 rounded-exists s (inf t) = λ n w. w .0
-rounded-exists s (fin t m e) = rounded-fitted s (fin t m e) t (sizeAt s t m e) (nearest-exists s t m e)
+rounded-exists s (fin t m e) = rounded-fitted s (fin t m e) t (sizeAt s m e) (nearest-exists s t m e)
 
 pub far-is-bad : (s : ℕ) (t : Bool) (m : ℕ) (e : ℤ) → 2 ^ 32 * down e ≤ m * up e → Rounded s (fin t m e) Bad
 unfolding Rounded
-far-is-bad s t m e h = λ n w. let b = in32-bounds n (w .1, w .2) in nearest-far s t m e n h (b .0) (b .1) (w .0)
+far-is-bad s t m e h = λ n w.
+    let (k, big, is) = nearest-far s t m e n h (w .0) in
+    let b = in32-bounds n (w .1, w .2) in
+    go t k big (rw is at b)
+  where
+    go : (t : Bool) (k : ℕ) → 2 ^ 31 < k → (above (signed t k) < 2 ^ 31) × (below (signed t k) ≤ 2 ^ 31) → ⊥
+    go false k big b = omega (arith, b .0)
+    go true k big b = omega (arith, b .1, below-neg k)

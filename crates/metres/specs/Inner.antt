@@ -1,6 +1,5 @@
 -- INNER: for the contracts of private functions. From a coordinate to a whole number: its size in half voxels, the tie rule and the range. Definitions only.
 use Prim.Native.Nat.{ℕ, _+_, _*_, _/_, _^_, _≤_, _<_}
-use mathlib.Core.Path.{_≡_}
 use mathlib.Core.Bool.{Bool, true, false, cond}
 use lib.Dec.{leb, ltb}
 use lib.IntN.{ℤ}
@@ -8,7 +7,6 @@ use lib.Ieee.{Float, neg}
 use lib.Ieee.Positive.{num, den}
 use Rattle.metres.specs.declared.inner.Coordinate.{Coordinate}
 use Rattle.metres.specs.declared.inner.Coordinate.the-variants.{Voxels, Bad}
-use Rattle.metres.specs.declared.inner.Halves.{Halves}
 use Rattle.metres.specs.declared.inner.Taken.{Taken}
 use Rattle.metres.specs.declared.inner.Taken.the-variants as TakenV
 use Rattle.metres.specs.Metres.{signed, Whole}
@@ -18,18 +16,14 @@ unfoldable pub Rounded : ℕ → Float → Coordinate → Type 0
 Rounded s d (Voxels n) = Whole s d n
 Rounded s d Bad = (n : ℤ) → Whole s d n → ⊥
 
--- h is the size of the coordinate a, which is num a / den a metres, in half voxels of the edge 2^-s: so many whole ones, and whether there is something more
-pub record Measured (s : ℕ) (a : Float) (h : Halves) : Type 0 where
-  pub least : h .whole * den a ≤ 2 * num a * 2 ^ s
-  pub most : 2 * num a * 2 ^ s < h .whole * den a + den a
-  pub over : h .over ≡ ltb (h .whole * den a) (2 * num a * 2 ^ s)
+-- w is the size of the coordinate a, which is num a / den a metres, in whole half voxels of the edge 2^-s: what is less than a half voxel is left out
+pub record Measured (s : ℕ) (a : Float) (w : ℕ) : Type 0 where
+  pub least : w * den a ≤ 2 * num a * 2 ^ s
+  pub most : 2 * num a * 2 ^ s < w * den a + den a
 
--- THE TIE RULE. The size of the whole number nearest to a coordinate of w half voxels and, where `over`, something more; t says that the coordinate is negative.
--- A half goes up: it adds to the size of a positive coordinate and takes from that of a negative one.
-abbrev pub sizeOf : Bool → ℕ → Bool → ℕ
-sizeOf false w over = (w + 1) / 2
-sizeOf true w true = (w + 1) / 2
-sizeOf true w false = w / 2
+-- THE TIE RULE. The size of the whole number nearest to a coordinate of w half voxels, and perhaps something more: the half voxel that makes no pair counts as a whole one.
+abbrev pub sizeOf : ℕ → ℕ
+sizeOf w = (w + 1) / 2
 
 -- k, or -k where t is true, if that is a signed 32-bit number
 abbrev pub inRange : Bool → ℕ → Bool

@@ -1,11 +1,11 @@
--- A move in whole voxels or in metres, and the whole voxels that it becomes: document 01, "Moves", and number 5 of its table. Definitions only.
+-- A move in whole voxels or in metres, and the whole voxels that it becomes: document 01, "Moves", and number 5 of its table; a half goes as ticket 3 says. Definitions only.
 -- A float (`lib.Ieee`) is `nan`, an infinity, or `fin t m e`: the number m * 2 ^ e, negative where t is true. 2 ^ e is the fraction up e / down e, one of which is 1.
 -- A whole number (`lib.IntN`) is `pos n`, which is n, or `negsuc n`, which is -(n + 1).
-use Prim.Native.Nat.{ℕ, _*_, _^_, _<_}
+use Prim.Native.Nat.{ℕ, _+_, _*_, _^_, _≤_, _<_}
 use mathlib.Core.Path.{_≡_}
 use mathlib.Core.Bool.{Bool, true, false}
 use mathlib.Core.List.{List, [], _∷_}
-use lib.IntN.{ℤ, pos, negℤ, _+ℤ_, _-ℤ_, _*ℤ_}
+use lib.IntN.{ℤ, pos, negℤ}
 use lib.Signed.{_≤ℤ_, _<ℤ_}
 use lib.Ieee.{Float, nan, inf, fin, up, down}
 use Rattle.cells.specs.Answer.{answer, Test, refuses, refusesFirst}
@@ -20,17 +20,16 @@ abbrev pub signed : Bool → ℕ → ℤ
 signed false a = pos a
 signed true a = negℤ (pos a)
 
--- 2d x 2^s for d = ±m * 2 ^ e, multiplied by `down e` so that it is whole
-abbrev pub doubled : ℕ → Bool → ℕ → ℤ → ℤ
-doubled s t m e = signed t (2 * (m * up e) * 2 ^ s)
+-- k is the whole number nearest to the size a / c, a half going up: 2k - 1 <= 2a / c < 2k + 1. Each side is multiplied by c, and the 1 stands where it is added.
+abbrev pub NearestSize : ℕ → ℕ → ℕ → Type 0
+NearestSize a c k = (2 * (k * c) ≤ 2 * a + c) × (2 * a < 2 * (k * c) + c)
 
--- n is the whole number nearest to d x 2^s, a half going up: 2n - 1 <= 2d x 2^s < 2n + 1, over the exact value of d. Each side is multiplied by `down e`.
--- A NaN and an infinity have no such n.
+-- n is the whole number nearest to d x 2^s, a half going away from zero, over the exact value of d: the size of d x 2^s is rounded, and the sign of d put back.
+-- So 2n - 1 <= 2d x 2^s < 2n + 1 where d is at or above zero, and below zero the mirror image. A NaN and an infinity have no such n.
 unfoldable pub Nearest : ℕ → Float → ℤ → Type 0
 Nearest s nan n = ⊥
 Nearest s (inf t) n = ⊥
-Nearest s (fin t m e) n =
-    (((pos 2 *ℤ n -ℤ pos 1) *ℤ pos (down e)) ≤ℤ doubled s t m e) × (doubled s t m e <ℤ ((pos 2 *ℤ n +ℤ pos 1) *ℤ pos (down e)))
+Nearest s (fin t m e) n = (k : ℕ) × NearestSize (m * up e * 2 ^ s) (down e) k × (n ≡ signed t k)
 
 -- the coordinate d becomes n voxels of the edge 2^-s: the nearest number, where it is a signed 32-bit one, -2^31 <= n < 2^31
 abbrev pub Whole : ℕ → Float → ℤ → Type 0

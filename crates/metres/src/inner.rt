@@ -1,8 +1,8 @@
 // INNER: a move in whole voxels, for the crate of the move call. A host must not call these.
 //
-// A coordinate d in metres becomes the whole number nearest to d x 2^s, a half going up, over the exact value of d. The size of d, times 2^(s+1), is an
-// `f64` again and nothing is lost, since only the exponent changes (`halved`). Its whole part counts half voxels, and whether something is over tells a half
-// from more than a half. `size` is the tie rule, and the only place that knows it. `fit` is the range of 32 bits.
+// A coordinate d in metres becomes the whole number nearest to d x 2^s, a half going away from zero, over the exact value of d. The size of d, times 2^(s+1),
+// is an `f64` again and nothing is lost, since only the exponent changes (`halved`). Its whole part counts half voxels. `size` is the tie rule, and the only
+// place that knows it. `fit` puts the sign back and is the range of 32 bits.
 use crate::FINEST;
 use crate::Metres;
 ghost use mathlib.Core.Path.{_≡_};
@@ -34,41 +34,21 @@ pub enum Coordinate {
     Bad,
 }
 
-// A size in half voxels: so many whole ones, and whether there is something more.
-pub struct Halves {
-    pub whole: u64,
-    pub over: bool,
-}
-
-// The size a in half voxels.
-fn halved(a: f64, s: u32) -> Halves
+// The size a in whole half voxels.
+fn halved(a: f64, s: u32) -> u64
     requires { ⌜ s ≤ finest ⌝ }
     requires { ⌜ T (positive a) ⌝ }
     requires { ⌜ num a < 2 ^ 32 * den a ⌝ }
     ensures { λ r. ⌜ Measured s a r ⌝ }
 {
     let per_metre = (2u64 << s) as f64;
-    let y = a * per_metre;
-    let t = std::num::truncating_f64_to_u64(y);
-    let back = t as f64;
-    Halves {
-        whole: t,
-        over: back < y,
-    }
+    std::num::truncating_f64_to_u64(a * per_metre)
 }
 
-// The tie rule: the size of the nearest whole number. (w + 1) / 2 is written so that no sum can wrap.
-fn size(negative: bool, h: Halves) -> u64
-    ensures { λ r. ⌜ r ≡ sizeOf negative (h .whole) (h .over) ⌝ }
+// The tie rule: the size of the whole number nearest to w half voxels. (w + 1) / 2 is written so that no sum can wrap.
+fn size(w: u64) -> u64
+    ensures { λ r. ⌜ r ≡ sizeOf w ⌝ }
 {
-    let w = h.whole;
-    let over = h.over;
-    if negative {
-        if over {
-            return w / 2 + w % 2;
-        }
-        return w / 2;
-    }
     w / 2 + w % 2
 }
 
@@ -95,8 +75,8 @@ fn of_size(negative: bool, a: f64, s: u32) -> Coordinate
     ensures { λ r. ⌜ Rounded s (withSign negative a) r ⌝ }
 {
     if a < REACH {
-        let h = halved(a, s);
-        let k = size(negative, h);
+        let w = halved(a, s);
+        let k = size(w);
         return fit(negative, k);
     }
     Coordinate::Bad

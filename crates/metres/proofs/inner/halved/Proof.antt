@@ -1,7 +1,7 @@
--- `metres::inner::halved` meets its contract. a times 2^(s+1) is exact (`scaled`), its whole part is what `truncating_f64_to_u64` gives, and the test says whether that is all. Assumes nothing.
+-- `metres::inner::halved` meets its contract. a times 2^(s+1) is exact (`scaled`), and its whole part is what `truncating_f64_to_u64` gives. Assumes nothing.
 use mathlib.Core.Path.{_≡_, sym, ap, _∙_, subst}
 use Prim.Native.Nat.{ℕ, _+_, _*_, _/_, _%_, _^_, _≤_, _<_}
-use native.Mathlib.Nat.{le-trans, mod-eq-of-lt, mod-lt, div-add-mod', div-lt-iff-lt-mul, mul-comm, mul-assoc, mul-le-mul-left}
+use native.Mathlib.Nat.{le-trans, mod-eq-of-lt, mod-lt, div-add-mod', mul-comm, mul-assoc, mul-le-mul-left}
 use native.Mathlib.Omega.{arith}
 use mathlib.Core.Bool.{false}
 use lib.Dec.{T, le→leb, lit≤}
@@ -12,7 +12,7 @@ use lib.Ieee.Exact.{HasValue}
 use lib.Ieee.Positive.{num, den, den-pos}
 use borrow.Author.Needs.{needs}
 use Rattle.metres.specs.Metres.{finest}
-use Rattle.metres.proofs.Floats.{scaled, whole-value, above-minus-one, below-two-64, cut-is, over-is}
+use Rattle.metres.proofs.Floats.{scaled, above-minus-one, below-two-64, cut-is}
 use Rattle.metres.proofs.inner.halved.Statement.{statement}
 use Rattle.metres.proofs.inner.halved.Tie as tie
 
@@ -65,25 +65,15 @@ whole-is c =
     let start = c .before .before in
     c .truncating-f64-to-u64 .ensures ∙ cut-is (product start) (half-voxels start) (den (start .args .a)) (value start) (den-pos (start .args .a)) (below-64 start)
 
-whole-small : (c : tie.After-truncating-f64-to-u64) → c .truncating-f64-to-u64 .result ≤ 2 ^ 53
-whole-small c =
-    let start = c .before .before in
-    let q : half-voxels start / den (start .args .a) < 2 ^ 43 = div-lt-iff-lt-mul (den-pos (start .args .a)) .1 (small-product start) in
-    omega (arith, whole-is c)
-
 returns : tie.Need-returns
 returns c =
-    let start = c .before .before .before in
-    let w = c .before .truncating-f64-to-u64 .result in
+    let start = c .before .before in
+    let w = c .truncating-f64-to-u64 .result in
     let d = den (start .args .a) in
-    let e : w ≡ half-voxels start / d = whole-is (c .before) in
+    let e : w ≡ half-voxels start / d = whole-is c in
     let sum : w * d + half-voxels start % d ≡ half-voxels start = rw e (div-add-mod' (half-voxels start) d) in
     let r : half-voxels start % d < d = mod-lt (half-voxels start) (den-pos (start .args .a)) in
-    record {
-      least = omega arith;
-      most = omega arith;
-      over = over-is (ofInt binary64 (pos w)) (product start) w (half-voxels start) d (whole-value w (whole-small (c .before))) (value start) (den-pos (start .args .a));
-    }
+    record { least = omega arith; most = omega arith }
 
 pub halved-spec : {M : Type 1} → statement M
 halved-spec =
@@ -95,5 +85,4 @@ halved-spec =
     let start = c .before in
     let d = den (start .args .a) in
     (above-minus-one (product start) (half-voxels start) d (value start), below-two-64 (product start) (half-voxels start) d (value start) (den-pos (start .args .a)) (below-64 start)))
-    (λ c. number-held (c .before .truncating-f64-to-u64 .result) (whole-small (c .before)))
     returns)
