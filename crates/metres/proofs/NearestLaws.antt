@@ -19,9 +19,9 @@ use Rattle.metres.specs.Metres.{signed, NearestSize, Nearest}
 use Rattle.metres.specs.Inner.{sizeOf}
 
 -- ---- at most one
-not-above : (a c k k' : ℕ) → NearestSize a c k → NearestSize a c k' → k ≤ k'
-not-above a c k k' h h' =
-    let l : k * c < (k' + 1) * c = simp (add-mul, one-mul) (omega (arith, h .0, h' .1)) in
+not-above : (a c k k' : ℕ) → 0 < c → NearestSize a c k → NearestSize a c k' → k ≤ k'
+not-above a c k k' C h h' =
+    let l : k * c < (k' + 1) * c = simp (add-mul, one-mul) (omega (arith, C, h .0, h' .1)) in
     omega (arith, lt-of-mul-lt-mul-right c l)
 
 pub nearest-unique : (s : ℕ) (d : Float) (n n' : ℤ) → Nearest s d n → Nearest s d n' → n ≡ n'
@@ -30,7 +30,7 @@ nearest-unique s nan n n' h h' = absurd h
 nearest-unique s (inf t) n n' h h' = absurd h
 nearest-unique s (fin t m e) n n' (k, h, is) (k', h', is') =
     let a = m * up e * 2 ^ s in
-    is ∙ ap (signed t) (le-antisymm (not-above a (down e) k k' h h') (not-above a (down e) k' k h' h)) ∙ sym is'
+    is ∙ ap (signed t) (le-antisymm (not-above a (down e) k k' (down-pos e) h h') (not-above a (down e) k' k (down-pos e) h' h)) ∙ sym is'
 
 -- ---- one for each finite coordinate: the size in half voxels gives it by the tie rule
 size-nearest : (a c w : ℕ) → w * c ≤ 2 * a → 2 * a < w * c + c → NearestSize a c (sizeOf w)
