@@ -82,7 +82,7 @@ others =
     ∷ record { s = 3; bits = 0xbfd4_0000_0000_0000; n = Voxels (negsuc 1) }  -- to even: -5/2 to -2
     ∷ []
 
--- a coordinate's outcome as one number, to be asNumber from another
+-- a coordinate's outcome as one number, to be told from another
 abbrev asNumber : Coordinate → ℕ
 asNumber Bad = 0
 asNumber (Voxels (pos a)) = 2 * a + 1
@@ -122,6 +122,6 @@ taken-holds = together-taken _ (omega arith) (Voxels (pos 1)) (Voxels (negsuc 0)
 pub taken-fails : TakenOf (sixteenths 3) (TakenV.Voxels (pos 1) (pos 0) (pos 2)) → ⊥
 taken-fails h = let e : TakenV.Voxels (pos 1) (pos 0) (pos 2) ≡ TakenV.Voxels (pos 1) (negsuc 0) (pos 2) = one-taken (sixteenths 3) _ _ h taken-holds in let z : _≡_ {A = ℕ} 0 1 = cc in omega arith
 
--- an edge number above 10 is asNumber before any coordinate
+-- an edge number above 10 is told before any coordinate
 pub taken-refuses : TakenOf (sixteenths 11) (TakenV.Bad 3)
 taken-refuses = inl (_, (omega arith, refl), refl)
