@@ -67,6 +67,8 @@ fn table() {
             let name = format!("move by {d:?}");
             row(s.name, &name, 11, || ours::shift(DEPTH, &s.first, d, &mut room), || plain::shift(DEPTH, &s.first, d, &mut other));
         }
+        row(s.name, "turn by 1", 101, || ours::turn(DEPTH, &s.first, 1, &mut room), || plain::turn(DEPTH, &s.first, 1, &mut other));
+        assert!(room[..LEAVES] == other[..LEAVES], "{} turned", s.name);
         row(s.name, "write", 101, || ours::write(DEPTH, &s.first, &mut file), || plain::write(DEPTH, &s.first, &mut copy));
         assert_eq!(file, copy, "{} stored", s.name);
         row(s.name, "read", 101, || ours::read(&file, &mut room), || plain::read(&file, &mut other).0);

@@ -13,6 +13,7 @@ extern "C" {
     fn probe_df_read(depth: u32, text: *const u8, text_len: usize, out: *mut u32, room: usize, answer: *mut u64, len: usize);
     fn probe_df_write(depth: u32, list: *const u32, list_len: usize, bytes: *mut u8, room: usize, answer: *mut u64, len: usize);
     fn probe_move(depth: u32, list: *const u32, list_len: usize, dx: i32, dy: i32, dz: i32, out: *mut u32, room: usize, answer: *mut u64, len: usize);
+    fn probe_turn(depth: u32, list: *const u32, list_len: usize, turns: u32, out: *mut u32, room: usize, answer: *mut u64, len: usize);
 }
 
 #[link(name = "cab", kind = "static")]
@@ -52,6 +53,10 @@ pub fn set(op: Op, depth: u32, a: &[u32], b: &[u32], out: &mut [u32]) -> Answer 
 
 pub fn shift(depth: u32, list: &[u32], d: [i32; 3], out: &mut [u32]) -> Answer {
     told(|p, n| unsafe { probe_move(depth, list.as_ptr(), list.len(), d[0], d[1], d[2], out.as_mut_ptr(), out.len(), p, n) })
+}
+
+pub fn turn(depth: u32, list: &[u32], turns: u32, out: &mut [u32]) -> Answer {
+    told(|p, n| unsafe { probe_turn(depth, list.as_ptr(), list.len(), turns, out.as_mut_ptr(), out.len(), p, n) })
 }
 
 pub fn write(depth: u32, list: &[u32], bytes: &mut [u8]) -> Answer {

@@ -384,6 +384,56 @@ pub fn shift(depth: u32, list: &[u32], d: [i32; 3], out: &mut [u32]) -> Answer {
     told(0, displaced(depth, list, d, Some(out)).0 as u64, 0)
 }
 
+// ---- quarter turns: descent through target cells, each with the index range of its one source cell
+
+struct Turn<'a> {
+    leaves: Leaves<'a>,
+    /// The label that each label comes from.
+    source: [usize; 8],
+    at: usize,
+    out: &'a mut [u32],
+}
+
+impl Turn<'_> {
+    /// A turned leaf is a leaf, so that each is written where the descent meets it.
+    fn cell(&mut self, k: u32, code: u32, (lo, hi): Slot) {
+        if lo == hi {
+            return;
+        }
+        if !self.leaves.smaller(k, lo) {
+            self.out[self.at] = code;
+            self.at += 1;
+            return;
+        }
+        let parts = self.leaves.split(k - 1, (lo, hi));
+        for m in 0..8 {
+            self.cell(k - 1, 8 * code + m as u32, parts[self.source[m]]);
+        }
+    }
+}
+
+/// The label that one turn takes to m: its x is the y of m, its y is not the x of m.
+fn before_turn(m: usize) -> usize {
+    m >> 1 & 1 | (!m & 1) << 1 | m & 4
+}
+
+/// The number of leaves stays, so that nothing is counted before it is written.
+pub fn turn(depth: u32, list: &[u32], turns: u32, out: &mut [u32]) -> Answer {
+    if let Some(r) = refused(depth, &[list]) {
+        return r;
+    }
+    if turns > 3 {
+        return told(6, 1, 0);
+    }
+    if out.len() < list.len() {
+        return told(8, list.len() as u64, 0);
+    }
+    let source = [0, 1, 2, 3, 4, 5, 6, 7].map(|m| (0..turns).fold(m, |m, _| before_turn(m)));
+    let mut t = Turn { leaves: Leaves { depth, list }, source, at: 0, out };
+    t.cell(depth, 1, t.leaves.all());
+    told(0, t.at as u64, 0)
+}
+
 // ---- stored blocks
 
 pub fn write(depth: u32, list: &[u32], bytes: &mut [u8]) -> Answer {

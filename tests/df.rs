@@ -2,12 +2,9 @@
 //! are put together from a text's end.
 use crate::link;
 use crate::lists;
-use crate::model::{self, Runs};
+use crate::model::{self, told, Runs, Said};
 use crate::run::Run;
 use std::collections::{BTreeMap, BTreeSet};
-
-/// A list, a text, or a refusal.
-type Said<T> = Result<Vec<T>, link::Answer>;
 
 fn letter(black: bool) -> u8 {
     if black {
@@ -232,18 +229,6 @@ fn rooms<T>(want: &Said<T>) -> Vec<usize> {
     }
 }
 
-/// The answer for a buffer of that room, and what is written there.
-fn told<T: Clone>(n: usize, room: usize, want: &Said<T>) -> link::Wrote<T> {
-    if n < 8 {
-        return Ok((None, Vec::new()));
-    }
-    let (answer, result) = match want {
-        Ok(result) => model::result(room, result.clone()),
-        Err(refused) => (*refused, Vec::new()),
-    };
-    Ok((Some(answer), result))
-}
-
 fn read(run: &mut Run, n: usize, depth: u32, text: &[u8], want: &Said<u32>) {
     for room in rooms(want) {
         let what = || format!("df_read {depth} {}, room {room}, {n} words", String::from_utf8_lossy(text));
@@ -408,9 +393,8 @@ fn places(run: &mut Run, small: &Small) {
 
 /// Every set of depth 1, every list of up to two codes from 0 to 17 at depths 0 to 2, each refusal of a list at every depth, and depths that are refused.
 fn small_lists(run: &mut Run) {
-    for set in 0..256u32 {
-        let runs = model::union((0..8).filter(|v| set >> v & 1 == 1).map(|v| (v, v + 1)).collect());
-        write(run, 8, 1, &model::good_list(1, &runs));
+    for list in lists::every(1) {
+        write(run, 8, 1, &list);
     }
     for depth in 0..3 {
         for a in 0..18 {
@@ -421,8 +405,8 @@ fn small_lists(run: &mut Run) {
         }
     }
     for depth in (0..13).chain([u32::MAX]) {
-        for list in [vec![], vec![1], vec![7], vec![9, 8], vec![8, 9, 10, 11, 12, 13, 14, 15]] {
-            write(run, 8, depth, &list);
+        for list in lists::FEW {
+            write(run, 8, depth, list);
         }
     }
 }

@@ -39,6 +39,7 @@ extern "C" {
         answer: *mut u64,
         len: usize,
     );
+    fn probe_turn(depth: u32, list: *const u32, list_len: usize, turns: u32, out: *mut u32, room: usize, answer: *mut u64, len: usize);
     fn probe_write(depth: u32, list: *const u32, list_len: usize, bytes: *mut u8, room: usize, answer: *mut u64, len: usize);
     fn probe_list_text(depth: u32, list: *const u32, list_len: usize, bytes: *mut u8, room: usize, answer: *mut u64, len: usize);
     fn probe_refused_text(number: u32, place: u64, bytes: *mut u8, room: usize, answer: *mut u64, len: usize);
@@ -208,6 +209,10 @@ pub fn df_read(n: usize, room: usize, depth: u32, text: &[u8]) -> Wrote<u32> {
 
 pub fn df_write(n: usize, room: usize, depth: u32, list: &[u32]) -> Wrote<u8> {
     lent(list, |l| wrote(BYTE_GUARD, n, room, |out, p, len| unsafe { probe_df_write(depth, l, list.len(), out, room, p, len) }))
+}
+
+pub fn turn(n: usize, room: usize, depth: u32, list: &[u32], turns: u32) -> Wrote<u32> {
+    lent(list, |l| wrote(WORD_GUARD, n, room, |out, p, len| unsafe { probe_turn(depth, l, list.len(), turns, out, room, p, len) }))
 }
 
 pub fn block_check(n: usize, bytes: &[u8]) -> Told {

@@ -20,6 +20,16 @@ pub fn good(run: &mut Run, depth: u32, most: u64) -> Vec<u32> {
     model::good_list(depth, &model::union(pieces))
 }
 
+/// The good list of every set of voxels, at depth 0 or 1.
+pub fn every(depth: u32) -> Vec<Vec<u32>> {
+    let voxels = 1u64 << (3 * depth);
+    let list = |set: u32| model::good_list(depth, &model::union((0..voxels).filter(|v| set >> v & 1 == 1).map(|v| (v, v + 1)).collect()));
+    (0..1 << voxels).map(list).collect()
+}
+
+/// The empty list, the root, and each fault of a list: a number that is no code, two leaves out of order, eight siblings.
+pub const FEW: [&[u32]; 5] = [&[], &[1], &[7], &[9, 8], &[8, 9, 10, 11, 12, 13, 14, 15]];
+
 /// The list with one or two kinds of damage.
 pub fn damaged(run: &mut Run, depth: u32, most: u64) -> Vec<u32> {
     let mut list = good(run, depth, most);
@@ -114,9 +124,7 @@ fn about(run: &mut Run, depth: u32, list: &[u32]) {
 
 pub fn all(run: &mut Run) {
     // every set of depth 1, and every list of up to three codes from 0 to 17 at depths 0 to 2
-    for set in 0..256u32 {
-        let runs = model::union((0..8).filter(|v| set >> v & 1 == 1).map(|v| (v, v + 1)).collect());
-        let list = model::good_list(1, &runs);
+    for list in every(1) {
         about(run, 1, &list);
     }
     for depth in 0..3 {

@@ -13,6 +13,7 @@ mod moves;
 mod run;
 mod sets;
 mod text;
+mod turns;
 
 use run::Run;
 
@@ -26,6 +27,7 @@ fn main() {
     lists::all(&mut run);
     sets::all(&mut run);
     moves::all(&mut run);
+    turns::all(&mut run);
     blocks::all(&mut run);
     text::all(&mut run);
     df::all(&mut run);

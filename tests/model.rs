@@ -1,5 +1,5 @@
 //! Document 01 done plainly: cells as rows of labels and cubes of coordinates.
-use crate::link::{answer, Answer};
+use crate::link::{answer, Answer, Wrote};
 
 pub const DEEPEST: u32 = 10;
 
@@ -263,6 +263,21 @@ pub fn result<T>(room: usize, needed: Vec<T>) -> (Answer, Vec<T>) {
     } else {
         (answer(0, needed.len() as u64, 0), needed)
     }
+}
+
+/// A list, a text, or a refusal.
+pub type Said<T> = Result<Vec<T>, Answer>;
+
+/// The answer in n words for a buffer of that room, and what is written there.
+pub fn told<T: Clone>(n: usize, room: usize, want: &Said<T>) -> Wrote<T> {
+    if n < 8 {
+        return Ok((None, Vec::new()));
+    }
+    let (answer, written) = match want {
+        Ok(needed) => result(room, needed.clone()),
+        Err(refused) => (*refused, Vec::new()),
+    };
+    Ok((Some(answer), written))
 }
 
 pub fn set_of(op: Op, depth: u32, a: &[u32], b: &[u32], room: usize) -> (Answer, Vec<u32>) {

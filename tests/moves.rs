@@ -25,8 +25,32 @@ fn about(run: &mut Run, depth: u32, list: &[u32], d: [i32; 3]) {
 }
 
 /// A good list whose leaves are small enough to be moved voxel by voxel.
-fn movable(run: &mut Run, depth: u32, most: u64) -> Vec<u32> {
+pub fn movable(run: &mut Run, depth: u32, most: u64) -> Vec<u32> {
     lists::good(run, depth, most).into_iter().filter(|c| depth < 10 || *c >= 1 << 21).collect()
+}
+
+/// Every move by -2^D - 1 to 2^D + 1 along each axis.
+pub fn every(depth: u32) -> Vec<[i32; 3]> {
+    let reach = (1i32 << depth) + 1;
+    let along = move || -reach..=reach;
+    along().flat_map(|x| along().flat_map(move |y| along().map(move |z| [x, y, z]))).collect()
+}
+
+/// A move near or far for the depth, by whole cells now and then, and now and then as far as it can be written.
+pub fn displacement(run: &mut Run, depth: u32) -> [i32; 3] {
+    let far = run.one_of(&[1, 2, 3, 16, 300, 1 << 20]).min(1 << (depth + 1));
+    let mut d = [0; 3];
+    for x in &mut d {
+        *x = run.below(2 * far as u64 + 1) as i32 - far;
+    }
+    if run.below(6) == 0 {
+        let step = run.one_of(&[2, 4, 8, 256]);
+        d = [d[0] / step * step, d[1] / step * step, d[2] / step * step];
+    }
+    if run.below(30) == 0 {
+        d[run.below(3) as usize] = run.one_of(&[i32::MIN, i32::MAX, i32::MIN + 1]);
+    }
+    d
 }
 
 /// Coordinates around every edge of the rule: halves, ends of the range, the smallest floats, no numbers.
@@ -89,18 +113,13 @@ fn over_and_back(run: &mut Run, depth: u32, list: &[u32], d: [f64; 3], s: u32) {
 
 pub fn all(run: &mut Run) {
     edges(run);
-    // every move by -2^D - 1 .. 2^D + 1 along each axis at depths 0 to 2, on sets of every kind
-    for depth in 0..3u32 {
-        let reach = (1i32 << depth) + 1;
+    // every move at depths 0 to 2, on sets of every kind
+    for depth in 0..3 {
         for _ in 0..4 {
             let most = run.one_of(&[1, 2, 6]);
             let list = lists::good(run, depth, most);
-            for x in -reach..=reach {
-                for y in -reach..=reach {
-                    for z in -reach..=reach {
-                        whole(run, 8, 64, depth, &list, [x, y, z]);
-                    }
-                }
+            for d in every(depth) {
+                whole(run, 8, 64, depth, &list, d);
             }
         }
     }
@@ -108,18 +127,7 @@ pub fn all(run: &mut Run) {
         let depth = run.one_of(&[1, 2, 3, 4, 10, 10, 10]);
         let most = run.one_of(&[0, 1, 2, 8]);
         let list = movable(run, depth, most);
-        let far = run.one_of(&[1, 2, 3, 16, 300, 1 << 20]).min(1 << (depth + 1));
-        let mut d = [0; 3];
-        for x in &mut d {
-            *x = run.below(2 * far as u64 + 1) as i32 - far;
-        }
-        if run.below(6) == 0 {
-            let step = run.one_of(&[2, 4, 8, 256]);
-            d = [d[0] / step * step, d[1] / step * step, d[2] / step * step];
-        }
-        if run.below(30) == 0 {
-            d[run.below(3) as usize] = run.one_of(&[i32::MIN, i32::MAX, i32::MIN + 1]);
-        }
+        let d = displacement(run, depth);
         about(run, depth, &list, d);
     }
     // refusals and metres

@@ -4,7 +4,7 @@ use crate::lists;
 use crate::model::{self, Op};
 use crate::run::Run;
 
-const OPS: [Op; 3] = [Op::Join, Op::Meet, Op::Less];
+pub const OPS: [Op; 3] = [Op::Join, Op::Meet, Op::Less];
 
 fn one(run: &mut Run, op: Op, n: usize, room: usize, depth: u32, a: &[u32], b: &[u32]) {
     let (answer, codes) = model::set_of(op, depth, a, b, room);
@@ -25,9 +25,7 @@ fn about(run: &mut Run, depth: u32, a: &[u32], b: &[u32]) {
 
 pub fn all(run: &mut Run) {
     // all pairs of sets of depth 1
-    let sets: Vec<Vec<u32>> = (0..256u32)
-        .map(|set| model::good_list(1, &model::union((0..8).filter(|v| set >> v & 1 == 1).map(|v| (v, v + 1)).collect())))
-        .collect();
+    let sets = lists::every(1);
     for a in &sets {
         for b in &sets {
             for op in OPS {

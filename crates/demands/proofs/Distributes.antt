@@ -1,5 +1,5 @@
 -- Demand 3: if two lists can both take a move, then moving and then joining, intersecting or subtracting gives the same list as doing that first and then
--- moving; that their join, intersection or difference can take the move is part of it. Of any call that carries a list; the move is one. Assumes nothing.
+-- moving; that their join, intersection or difference can take the move is part of it. Of any call that carries a list; the move is one, the turn another. Assumes nothing.
 use mathlib.Core.Logic.{_⊎_, inl, inr}
 use Prim.Native.Nat.{ℕ}
 use Rattle.sets.specs.declared.Op.{Op}
@@ -15,9 +15,9 @@ one-of-both Join A B t = t
 one-of-both Intersect A B t = inl (t .0)
 one-of-both Subtract A B t = inl (t .0)
 
-pub carrier-distributes : {X : Type 0} {M : Carrier X} {R : ℕ → X → ℕ → ℕ → Type 0} → Carries M R → (op : Op) → Distributes M (SetOf op)
-carrier-distributes {X} {M} {R} carries op D a b x o o' r move-a z p p' s move-b z' q q' t made f f' u made-first z'' g g' w moved =
-    go (carries .outcome D (wrote u f') x g g' w (m .depth) (y .gives .list .good) moved)
+pub carrier-distributes : {X : Type 0} {M : Carrier X} {R : ℕ → X → ℕ → ℕ → Type 0} {Takes : X → Type 0} → Carries M R Takes → (op : Op) → Distributes M (SetOf op)
+carrier-distributes {X} {M} {R} {Takes} carries op D a b x o o' r move-a z p p' s move-b z' q q' t made f f' u made-first z'' g g' w moved =
+    go (carries .outcome D (wrote u f') x g g' w (m .depth) (y .gives .list .good) (carries .taken D a x o o' r move-a z) moved)
   where
     m : Moved D a (R D x) o o' r
     m = carries .moved D a x o o' r move-a z

@@ -27,6 +27,7 @@ use Rattle.text.specs.Text.{textOf, TextOf, refusedText, RefusedOf}
 use Rattle.arrivals.specs.Arrivals.{Step, leaving, OtherDepth, ArriveOf, MergeOf}
 use Rattle.arrivals.proofs.Steps.{of-read, MovedFrom, Arrived, of-join, StoredAs, JoinedTo}
 use Rattle.df.specs.Df.{shows, Acceptable, WrongByte, StopsEarly, DfReadOf, DfOf, DfWriteOf}
+use Rattle.turns.specs.Turns.{Turned, NoTurn, TurnOf}
 use Rattle.demands.specs.Laws.{Kept, Keeps}
 use Rattle.demands.proofs.Outcomes.{Left}
 
@@ -99,6 +100,9 @@ df-read-keeps D t o o' r d =
 pub df-write-keeps : (D : ℕ) (l : List ℕ) → Keeps (DfWriteOf D l)
 df-write-keeps D l o o' r d =
     decided-keeps o (r, o') (TooDeep deepest D ∷ Faulty D l 1 ∷ []) (λ s. (t : List ℕ) × DfOf D l t × WritesOf t o s) (λ (t, _, w). writes-keeps o (r, o') t w) d
+
+pub turn-keeps : (D : ℕ) (l : List ℕ) (n : ℕ) → Keeps (TurnOf D l n)
+turn-keeps D l n o o' r d = good-list-keeps o (r, o') (TooDeep deepest D ∷ Faulty D l 1 ∷ NoTurn n ∷ []) D (FromBlack D (Turned D n) l) d
 
 -- ---- the steps of the order's job, of the buffer of their result; w is the buffer for work, and w' what stands there afterwards
 

@@ -10,6 +10,8 @@ pub mod Volumes
 pub mod Room
 -- ticket 3: a record sent over by metres and back
 pub mod OverAndBack
+-- ticket 4: quarter turns
+pub mod Turns
 -- calls worked out, and the checked examples of document 01
 pub mod Agreement
 pub mod WorkedMoves
@@ -21,3 +23,4 @@ pub mod Impostors
 pub mod StoredImpostors
 pub mod TextImpostors
 pub mod DfImpostors
+pub mod TurnImpostors

@@ -1,16 +1,12 @@
 -- Demand 3: if a first move is accepted, a second is accepted exactly when the single move by their sum is, and ends in the same list.
--- A voxel that came by the one and then by the other came by the sum, and the other way round through the voxel where the first left it. Assumes nothing.
+-- A voxel that came by the one and then by the other came by the sum, and one that came by the sum goes on by the other from where the first left it. Assumes nothing.
 use mathlib.Core.Path.{_≡_, refl, sym, ap, _∙_}
 use mathlib.Core.Logic.{_↔_, inl, inr}
-use mathlib.Core.List.{List}
-use Prim.Native.Nat.{ℕ, _^_, _<_}
+use Prim.Native.Nat.{ℕ}
 use lib.IntN.{ℤ, pos, _+ℤ_, +ℤ-assoc}
 use Rattle.cells.specs.Place.{EachAxis, Displaced, Came}
 use Rattle.cells.proofs.Places.{each-axis}
-use Rattle.records.specs.Record.{ListOf}
-use Rattle.records.specs.Carried.{FromBlack}
-use Rattle.records.proofs.Lists.{black-in-root}
-use Rattle.records.proofs.Carrying.{Accepted}
+use Rattle.records.proofs.Carrying.{Accepted, Then, accepted-then, carried-then}
 use Rattle.demands.specs.Laws.{move, Unaccepted, Roomy, wrote, Alike, TwoMoves}
 use Rattle.demands.proofs.Outcomes.{displacement, told-gives, told-accepted, same-set-alike, Outcome, Moved, move-carries}
 
@@ -44,44 +40,22 @@ module _ (D : ℕ) (d e : ℕ → ℤ) where
   came-rest : (u v w : ℕ) → Came D by-sum u w → Came D by-d u v → Came D by-e v w
   came-rest u v w s c = record { root = s .root; each = λ a h. displaced-rest (by-d a) (by-e a) _ _ _ (rw (sym (adds a h)) at (s .each a h)) (c .each a h) }
 
-  -- ---- a list l, and the list m of its displaced voxels
-
-  module _ (l m : List ℕ) (first : Accepted D (Came D by-d) l) (x : ListOf D (FromBlack D (Came D by-d) l) m) where
-    pub accepts-sum : Accepted D (Came D by-e) m ↔ Accepted D (Came D by-sum) l
-    accepts-sum = (
-      λ second u b.
-          let (v, c) = first u b in
-          let (w, f) = second v (x .exactly v (c .root) .1 (u, b, c)) in
-          (w, came-sum u v w c f),
-      λ sum v b.
-          let (u, a, c) = x .exactly v (black-in-root D 0 m (x .good .ordered) v b) .0 b in
-          let (w, s) = sum u a in
-          (w, came-rest u v w s c),
-    )
-
-    pub sum-same : (w : ℕ) → w < 8 ^ D → FromBlack D (Came D by-e) m w ↔ FromBlack D (Came D by-sum) l w
-    sum-same w h = (
-      λ (v, b, f).
-          let (u, a, c) = x .exactly v (black-in-root D 0 m (x .good .ordered) v b) .0 b in
-          (u, a, came-sum u v w c f),
-      λ (u, a, s).
-          let (v, c) = first u a in
-          (v, x .exactly v (c .root) .1 (u, a, c), came-rest u v w s c),
-    )
+  pub moves-then : Then D (Came D by-d) (Came D by-e) (Came D by-sum)
+  moves-then = record { root = λ u v c. c .root; both = came-sum; rest = came-rest }
 
 -- ---- the calls
 
 pub two-moves : TwoMoves move
 two-moves D l d e o o' r first z p p' s second q q' t single =
     go
-    (move-carries .outcome D (wrote r o') e p p' s (f .depth) (f .gives .list .good) second)
-    (move-carries .outcome D l (λ a. d a +ℤ e a) q q' t (f .depth) (f .good) single)
+    (move-carries .outcome D (wrote r o') e p p' s (f .depth) (f .gives .list .good) tt second)
+    (move-carries .outcome D l (λ a. d a +ℤ e a) q q' t (f .depth) (f .good) tt single)
   where
     f : Moved D l (Came D (displacement d)) o o' r
     f = move-carries .moved D l d o o' r first z
 
     accepts : Accepted D (Came D (displacement e)) (wrote r o') ↔ Accepted D (Came D (displacement (λ a. d a +ℤ e a))) l
-    accepts = accepts-sum D d e l (wrote r o') (f .accepted) (f .gives .list)
+    accepts = accepted-then (moves-then D d e) l (wrote r o') (f .accepted) (f .gives .list)
 
     go : Outcome D (wrote r o') (Came D (displacement e)) p p' s → Outcome D l (Came D (displacement (λ a. d a +ℤ e a))) q q' t
         → (Unaccepted s ↔ Unaccepted t) × ((Unaccepted s → ⊥) → Roomy s → Roomy t → Alike s p' t q')
@@ -91,5 +65,5 @@ two-moves D l d e o o' r first z p p' s second q q' t single =
     go (inr (_, a)) (inr (_, b)) = (
       (λ n. absurd (told-accepted D _ p p' s a n), λ n. absurd (told-accepted D _ q q' t b n)),
       λ stays roomy roomy'.
-          same-set-alike D _ _ s p' t q' (sum-same D d e l (wrote r o') (f .accepted) (f .gives .list)) (told-gives D _ p p' s a roomy) (told-gives D _ q q' t b roomy'),
+          same-set-alike D _ _ s p' t q' (λ w _. carried-then (moves-then D d e) l (wrote r o') (f .accepted) (f .gives .list) w) (told-gives D _ p p' s a roomy) (told-gives D _ q q' t b roomy'),
     )

@@ -24,7 +24,7 @@ use Rattle.metres.specs.declared.Move.{Move}
 use Rattle.metres.specs.declared.Move.the-variants.{Metres}
 use Rattle.shifts.specs.LabelSums.{sumLabel, carryLabel}
 use Rattle.shifts.specs.Shift.{shift, shifted}
-use Rattle.moves.specs.Inner.{keepsAlong, leafKeeps, turned, back}
+use Rattle.moves.specs.Inner.{keepsAlong, leafKeeps, reversed, back}
 use Rattle.moves.specs.Moves.{MoveOf}
 use Rattle.demands.specs.Examples.{Row, moves, makes, checks, measures, Fits, All, r057, r0, east, north}
 use Rattle.demands.proofs.Worked.{allWork, all-fit}
@@ -83,7 +83,7 @@ named =
     ∷ of-op row (of-op row-twice (of-op row-crowded []))
 
 named-work : allWork named ≡ true
-unfolding level proper index side start span holds along number corner count allFrom early eightAt fault black upto leaves goodList both sumLabel carryLabel shift shifted keepsAlong leafKeeps turned back
+unfolding level proper index side start span holds along number corner count allFrom early eightAt fault black upto leaves goodList both sumLabel carryLabel shift shifted keepsAlong leafKeeps reversed back
 named-work = refl
 
 right : All Fits named

@@ -98,10 +98,11 @@ module _ (D : ℕ) (l : List ℕ) (R : ℕ → ℕ → Type 0) (o o' : List ℕ)
   outcome-moved h g z (inr (ok, t)) =
       record { depth = h; good = g; accepted = ok; gives = told-gives D (FromBlack D R l) o o' r t (λ e. let f : _≡_ {A = ℕ} 0 8 = sym z ∙ e in omega arith) }
 
--- M carries a list as R says
-pub record Carries {X : Type 0} (M : Carrier X) (R : ℕ → X → ℕ → ℕ → Type 0) : Type 0 where
+-- M carries a list as R says, by each x that it takes
+pub record Carries {X : Type 0} (M : Carrier X) (R : ℕ → X → ℕ → ℕ → Type 0) (Takes : X → Type 0) : Type 0 where
   pub carrying : (D : ℕ) (x : X) → Carrying D (R D x)
-  pub outcome : (D : ℕ) (l : List ℕ) (x : X) (o o' : List ℕ) (r : Answer) → D ≤ deepest → Good D l → M D l x o r o' → Outcome D l (R D x) o o' r
+  pub outcome : (D : ℕ) (l : List ℕ) (x : X) (o o' : List ℕ) (r : Answer) → D ≤ deepest → Good D l → Takes x → M D l x o r o' → Outcome D l (R D x) o o' r
+  pub taken : (D : ℕ) (l : List ℕ) (x : X) (o o' : List ℕ) (r : Answer) → M D l x o r o' → Succeeds r → Takes x
   pub moved : (D : ℕ) (l : List ℕ) (x : X) (o o' : List ℕ) (r : Answer) → M D l x o r o' → Succeeds r → Moved D l (R D x) o o' r
 
 -- ---- the move by whole voxels
@@ -128,8 +129,14 @@ module _ (D : ℕ) (l : List ℕ) (d : ℕ → ℤ) (o o' : List ℕ) (r : Answe
       let k = move-success D l (Voxels (d 0) (d 1) (d 2)) o r o' m z in
       outcome-moved D l R o o' r (k .shallow) (k .good) z (move-outcome (k .shallow) (k .good) m)
 
-pub move-carries : Carries move (λ D d. Came D (displacement d))
-move-carries = record { carrying = λ D d. displacing D (displacement d); outcome = move-outcome; moved = move-succeeds }
+-- it takes every displacement
+pub move-carries : Carries move (λ D d. Came D (displacement d)) (λ d. Unit {0})
+move-carries = record {
+  carrying = λ D d. displacing D (displacement d);
+  outcome = λ D l d o o' r h g _. move-outcome D l d o o' r h g;
+  taken = λ D l d o o' r _ _. tt;
+  moved = move-succeeds;
+}
 
 -- ---- a call that makes one list of two
 

@@ -23,7 +23,7 @@ told-roomy D Q o o' r room (l, x, inr (_, e)) z = let g : _≡_ {A = ℕ} 0 8 = 
 
 module _ (D : ℕ) (o o' : List ℕ) (r : Answer) (shallow : D ≤ deepest) (room : most D ≤ length o) where
   pub move-roomy : (l : List ℕ) (d : ℕ → ℤ) → Good D l → move D l d o r o' → Roomy r
-  move-roomy l d g m = go (move-carries .outcome D l d o o' r shallow g m)
+  move-roomy l d g m = go (move-carries .outcome D l d o o' r shallow g tt m)
     where
       go : Outcome D l (Came D (displacement d)) o o' r → Roomy r
       go (inl (seven, _)) z = let g : _≡_ {A = ℕ} 7 8 = sym seven ∙ z in omega arith

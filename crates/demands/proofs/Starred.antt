@@ -13,12 +13,12 @@ use Rattle.sets.specs.Inner.{both}
 use Rattle.metres.proofs.Rounding.{rounded}
 use Rattle.shifts.specs.LabelSums.{sumLabel, carryLabel}
 use Rattle.shifts.specs.Shift.{shift, shifted}
-use Rattle.moves.specs.Inner.{keepsAlong, leafKeeps, turned, back}
+use Rattle.moves.specs.Inner.{keepsAlong, leafKeeps, reversed, back}
 use Rattle.demands.specs.Examples.{Fits, All, table}
 use Rattle.demands.proofs.Worked.{allWork, all-fit}
 
 all-work : allWork table ≡ true
-unfolding level proper index side start span holds digitOf under rule stepped carried along number corner count allFrom early eightAt fault black upto leaves goodList both rounded neg ofBits sumLabel carryLabel shift shifted keepsAlong leafKeeps turned back
+unfolding level proper index side start span holds digitOf under rule stepped carried along number corner count allFrom early eightAt fault black upto leaves goodList both rounded neg ofBits sumLabel carryLabel shift shifted keepsAlong leafKeeps reversed back
 all-work = refl
 
 pub starred : All Fits table

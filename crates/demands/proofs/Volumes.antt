@@ -30,8 +30,8 @@ volume-is D l v h g (inr (_, inr (_, e))) = e
 
 -- ---- a call that carries a list, and so the move
 
-pub carrier-keeps-volume : {X : Type 0} {M : Carrier X} {R : ℕ → X → ℕ → ℕ → Type 0} → Carries M R → KeepsVolume M
-carrier-keeps-volume {X} {M} {R} carries D l x o o' r moved z v w of-l of-m =
+pub carrier-keeps-volume : {X : Type 0} {M : Carrier X} {R : ℕ → X → ℕ → ℕ → Type 0} {Takes : X → Type 0} → Carries M R Takes → KeepsVolume M
+carrier-keeps-volume {X} {M} {R} {Takes} carries D l x o o' r moved z v w of-l of-m =
     let m : Moved D l (R D x) o o' r = carries .moved D l x o o' r moved z in
     let p : v ≡ given (blacks D l) = volume-is D l v (m .depth) (m .good) of-l in
     let q : w ≡ given (blacks D (wrote r o')) = volume-is D (wrote r o') w (m .depth) (m .gives .list .good) of-m in

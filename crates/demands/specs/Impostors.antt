@@ -2,7 +2,7 @@
 use mathlib.Core.Path.{_≡_}
 use mathlib.Core.Bool.{true}
 use mathlib.Core.List.{[], _∷_}
-use Prim.Native.Nat.{ℕ}
+use Prim.Native.Nat.{ℕ, _*_, _%_}
 use lib.IntN.{ℤ, pos}
 use Rattle.cells.specs.Answer.{Decided, keeping, deepest, TooDeep}
 use Rattle.cells.specs.Place.{axes}
@@ -10,6 +10,7 @@ use Rattle.records.specs.Record.{black}
 use Rattle.records.specs.Fault.{Faulty}
 use Rattle.records.specs.Writing.{WritesListOf}
 use Rattle.demands.specs.Laws.{Carrier, Combiner, move}
+use Rattle.demands.specs.Turns.{turn}
 
 -- A call with the tests of join, intersect and subtract, that gives the good list of the voxels that T takes, from whether they are black in the first list and in the
 -- second. `SetOf op` is `Combines (Chosen op)`.
@@ -27,3 +28,11 @@ secondList = Combines (λ A B. B)
 -- a move that goes along x and skips y and z
 abbrev pub alongX : Carrier (ℕ → ℤ)
 alongX D l d = move D l (axes (d 0) (pos 0) (pos 0))
+
+-- a turn that goes the other way round: three times as many this way
+abbrev pub otherWay : Carrier ℕ
+otherWay D l n = turn D l (3 * n % 4)
+
+-- a turn that leaves the list as it is
+abbrev pub unturned : Carrier ℕ
+unturned D l n = turn D l 0

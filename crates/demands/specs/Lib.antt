@@ -2,6 +2,8 @@
 pub mod Laws
 -- a record sent over by metres and back: ticket 3
 pub mod OverAndBack
+-- quarter turns: ticket 4
+pub mod Turns
 -- calls that are none of the library's
 pub mod Impostors
 -- the examples of document 01

@@ -1,7 +1,7 @@
 -- The tree of a cell from the leaves that meet it, and its text, put child by child. Assumes nothing.
 use mathlib.Core.Path.{_≡_, refl, sym, ap, _∙_}
 use mathlib.Core.Bool.{Bool, true, false}
-use mathlib.Core.Logic.{_⊎_, inl, inr, ⊎-elim}
+use mathlib.Core.Logic.{_⊎_, inl, inr}
 use mathlib.Core.List.{List, [], _∷_, List·Memᴰ}
 use Prim.Native.Nat.{ℕ, suc, _+_, _-_, _*_, _^_, _<_, _≤_}
 use native.Mathlib.Nat.{le-refl, zero-mul, suc-mul, lt-of-mul-lt-mul-right}
@@ -23,7 +23,7 @@ use Rattle.records.proofs.Fault.{member-at}
 use Rattle.records.proofs.Leaves.{one-leaf}
 use Rattle.records.proofs.Lists.{holds-between}
 use Rattle.records.proofs.Maximal.{inside-leaf}
-use Rattle.records.proofs.SlotLaws.{black-at, slot-colour, slot-low, slot-proper, at-cell, whole-list}
+use Rattle.records.proofs.SlotLaws.{black-at, slot-colour, slot-low, slot-proper, slot-above, at-cell, whole-list}
 use Rattle.text.specs.Inner.{Put}
 use Rattle.text.proofs.Puts.{put-none, put-append, put-as}
 use Rattle.df.specs.Df.{Tree, leaf, gray, letter, opening, texts, spell, Allowed, shows, DfOf}
@@ -114,21 +114,17 @@ spelled-leaf o x t p part = record { tree = leaf x; is-tree = tree-leaf o part x
 
 -- a gray cell: "(", and then its children
 module _ {D k at : ℕ} {l : List ℕ} {s : Slot} (x : Spelling D l k s at) (mixed : SlotTint D l (8 ^ k) s Mixed) where
-  -- it has children
-  pub mixed-parent : 1 ≤ k
-  mixed-parent = ⊎-elim (λ (z : k ≤ 0). let e : k ≡ 0 = omega arith in absurd (omega (arith, mixed .1, span-pos D (getD l (s .lo) 0), ap (λ (n : ℕ). 8 ^ n) e))) (λ h. h) (le-or-lt k 0)
-
-  -- with n levels left
+  -- with n levels left under each of its children
   module _ (n : ℕ) (level : suc n ≡ k) where
-    pub parent-slot : OfCell D l (suc n) s × SlotTint D l (8 ^ suc n) s Mixed
-    parent-slot = rw level (x .held, mixed)
+    abbrev above : OfCell D l (suc n) s × SlotTint D l (8 ^ suc n) s Mixed
+    above = slot-above (x .held) mixed n level
 
     -- and the parts of its slot
     module _ (p : List Slot) (cut : (b : ℕ) → Of D l (suc n) b s → (m : ℕ) → m < 8 → Of D l n (8 * b + m) (slotAt p m)) where
       pub spelling-children : {next : ℕ} → next ≡ at + 1 → KidsSpelling D l n p next
       spelling-children e = record {
         good = x .good;
-        held = λ m h. record { source = x .held .source; level = omega (arith, x .held .level); cell = 8 * parent-slot .0 .cell + m; part = cut _ (parent-slot .0 .part) m h };
+        held = λ m h. record { source = x .held .source; level = omega (arith, x .held .level); cell = 8 * above .0 .cell + m; part = cut _ (above .0 .part) m h };
         room = omega (arith, x .room, ap mostBytes level);
       }
 
@@ -140,7 +136,7 @@ module _ {D k at : ℕ} {l : List ℕ} {s : Slot} (x : Spelling D l k s at) (mix
           let texts = children (cut b own) in
           rw (← level) (record {
             tree = gray (texts .trees);
-            is-tree = tree-gray (x .good) (at-cell (parent-slot .0) own) (parent-slot .1) (texts .trees) (texts .are-trees);
+            is-tree = tree-gray (x .good) (at-cell (above .0) own) (above .1) (texts .trees) (texts .are-trees);
             put = put-append opened (texts .put);
           })
 

@@ -24,6 +24,12 @@ module _ (D : ℕ) (P : ℕ → Bool) (Q : ℕ → Type 0) (exactly : (v : ℕ) 
   pub result-list : {o out : List ℕ} {n : ℕ} (x : Result D P o out n) → ListOf D Q (x .cells)
   result-list x = list-same D (λ v. P v ≡ true) Q (x .cells) exactly (record { good = x .good; exactly = λ v h. let e = x .same v h in (λ b. sym e ∙ b, λ p. e ∙ p) })
 
+  -- all of it is put over a buffer that has room for it
+  pub put-whole : {o out : List ℕ} {n : ℕ} {a : Answer} → a ≡ given n → n ≤ length o → Result D P o out n → WritesListOf D Q o (a, out)
+  put-whole {o} {out} {n} {a} e room x =
+      let l : List ℕ = x .cells in
+      (l, result-list x, standing l o n (x .count) a out room e (x .written ∙ sets-front o l (omega (arith, x .count))))
+
   -- after the first pass the buffer is the part lent, none of it, and all the rest
   module _ {o part : List ℕ} {n : ℕ} (counted : Result D P (take 0 o) part n) where
     untouched : part ++ drop 0 o ≡ o
@@ -36,11 +42,8 @@ module _ (D : ℕ) (P : ℕ → Bool) (Q : ℕ → Type 0) (exactly : (v : ℕ) 
     -- it finds room, and the second pass writes
     pub written : {a : Answer} {out : List ℕ} {n′ : ℕ} → a ≡ given n′ → n ≤ length (part ++ drop 0 o) → Result D P (part ++ drop 0 o) out n′ → WritesListOf D Q o (a, out)
     written {a} {out} {n′} e h wrote =
-        let l : List ℕ = wrote .cells in
-        let same : counted .cells ≡ l = one-list D Q _ _ (result-list counted) (result-list wrote) in
-        let room : n′ ≤ length o = omega (arith, ap length same, ap length untouched, counted .count, wrote .count) in
-        let front : out ≡ stands l o = wrote .written ∙ ap (λ (b : List ℕ). sets b 0 l) untouched ∙ sets-front o l (omega (arith, wrote .count)) in
-        (l, result-list wrote, standing l o n′ (wrote .count) a out room e front)
+        let same : counted .cells ≡ wrote .cells = one-list D Q _ _ (result-list counted) (result-list wrote) in
+        put-whole e (omega (arith, ap length same, ap length untouched, counted .count, wrote .count)) (rw untouched at wrote)
 
 -- ---- no second answer fits
 

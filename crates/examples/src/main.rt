@@ -7,6 +7,7 @@ use printing::inner::on_cells;
 use printing::inner::on_records;
 use printing::inner::on_sets;
 use printing::inner::on_text;
+use printing::inner::on_turns;
 
 fn main() {
     on_cells::run();
@@ -17,4 +18,5 @@ fn main() {
     on_blocks::run();
     on_text::run();
     on_df::run();
+    on_turns::run();
 }

@@ -20,7 +20,7 @@ use Rattle.records.proofs.Carrying.{Accepted}
 use Rattle.shifts.specs.Shift.{shift, shifted}
 use Rattle.shifts.proofs.Bits.{zero-bit}
 use Rattle.shifts.proofs.Adder.{shift-sum, shifted-in}
-use Rattle.moves.specs.Inner.{Splits, turned, back}
+use Rattle.moves.specs.Inner.{Splits, reversed, back}
 use Rattle.moves.specs.declared.inner.Parted.{Parted}
 use Rattle.moves.proofs.Acceptance.{splits-above}
 
@@ -31,13 +31,13 @@ module _ (D : ℕ) (d : ℕ → ℤ) (q : ℕ → Parted) (split : EachAxis (λ 
   w = back D q
 
   -- what is added along an axis
-  along-back : EachAxis (λ a. along (2 ^ a) D w ≡ turned D (q a))
-  unfolding back turned
-  along-back = along-axes D (λ a. turned D (q a)) (λ a h. difference-lt D (q a .down) (q a .up))
+  along-back : EachAxis (λ a. along (2 ^ a) D w ≡ reversed D (q a))
+  unfolding back reversed
+  along-back = along-axes D (λ a. reversed D (q a)) (λ a h. difference-lt D (q a .down) (q a .up))
 
   -- u comes to t, and the source of v, displaced in the same way, to v, modulo the side
   side-by-side : (u t v : ℕ) → Came D d u t → EachAxis (λ a. Congruent (2 ^ D) (along (2 ^ a) D u + along (2 ^ a) D v) (along (2 ^ a) D (shift D w 0 v) + along (2 ^ a) D t))
-  unfolding turned
+  unfolding reversed
   side-by-side u t v came a h =
       let (m, e) = shift-sum D w 0 v .1 a h in
       let c = difference-congruent D (q a .down) (q a .up) in

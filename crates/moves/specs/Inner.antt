@@ -24,10 +24,10 @@ keepsAlong D b d c = keeps (2 ^ D) (corner b D c) (side D c) d
 unfoldable pub leafKeeps : ℕ → (ℕ → Parted) → ℕ → Bool
 leafKeeps D p c = allAxes (λ a. keepsAlong D (2 ^ a) (p a) c)
 
--- a displacement turned round, modulo the root's side
-unfoldable pub turned : ℕ → Parted → ℕ
-turned D d = (d .down % 2 ^ D + (2 ^ D - d .up % 2 ^ D)) % 2 ^ D
+-- a displacement reversed, modulo the root's side
+unfoldable pub reversed : ℕ → Parted → ℕ
+reversed D d = (d .down % 2 ^ D + (2 ^ D - d .up % 2 ^ D)) % 2 ^ D
 
 -- the voxel number that, added along each axis modulo the side, takes a displaced voxel back to where it came from
 unfoldable pub back : ℕ → (ℕ → Parted) → ℕ
-back D p = number D (turned D (p 0)) (turned D (p 1)) (turned D (p 2))
+back D p = number D (reversed D (p 0)) (reversed D (p 1)) (reversed D (p 2))

@@ -12,7 +12,7 @@ ghost use Rattle.cells.specs.Inner.{Stops};
 ghost use Rattle.cells.specs.Place.{axes};
 ghost use lib.ListN.{length, getD};
 ghost use Rattle.records.specs.Record.{Ordered};
-ghost use Rattle.moves.specs.Inner.{Splits, keeps, keepsAlong, leafKeeps, turned, back};
+ghost use Rattle.moves.specs.Inner.{Splits, keeps, keepsAlong, leafKeeps, reversed, back};
 
 // A displacement along one axis: up - down, one of them 0.
 pub struct Parted {
@@ -88,10 +88,10 @@ pub fn first_stray(depth: u32, list: &[u32], x: Parted, y: Parted, z: Parted) ->
     i
 }
 
-// A displacement turned round, modulo the root's side.
-pub fn turn(depth: u32, d: Parted) -> u32
+// A displacement reversed, modulo the root's side.
+pub fn reverse(depth: u32, d: Parted) -> u32
     requires { ⌜ depth ≤ deepest ⌝ }
-    ensures { λ r. ⌜ r ≡ turned depth d ⌝ }
+    ensures { λ r. ⌜ r ≡ reversed depth d ⌝ }
 {
     let up = d.up;
     let down = d.down;
@@ -104,5 +104,10 @@ pub fn backwards(depth: u32, x: Parted, y: Parted, z: Parted) -> u32
     requires { ⌜ depth ≤ deepest ⌝ }
     ensures { λ r. ⌜ r ≡ back depth (axes x y z) ⌝ }
 {
-    number_of(depth, turn(depth, x), turn(depth, y), turn(depth, z))
+    number_of(
+        depth,
+        reverse(depth, x),
+        reverse(depth, y),
+        reverse(depth, z),
+    )
 }

@@ -7,3 +7,4 @@ pub mod on_moves;
 pub mod on_records;
 pub mod on_sets;
 pub mod on_text;
+pub mod on_turns;

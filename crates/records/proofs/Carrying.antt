@@ -38,6 +38,44 @@ Accepted D R l = (u : ℕ) → black D l u ≡ true → (v : ℕ) × R u v
 pub accepted-passes : (D : ℕ) (R : ℕ → ℕ → Type 0) (l : List ℕ) → Accepted D R l → (a : Answer) → Straying D R l a → ⊥
 accepted-passes D R l ok = passes-first (λ i h (u, held, none). let (v, r) = ok u (member-black D (getD l i 0) l u (member-at l i h) held) in none v r)
 
+-- ---- one after the other
+
+-- what is carried by R and then by S is carried by T
+pub record Then (D : ℕ) (R S T : ℕ → ℕ → Type 0) : Type 0 where
+  pub root : (u v : ℕ) → R u v → v < 8 ^ D
+  pub both : (u v w : ℕ) → R u v → S v w → T u w
+  pub rest : (u v w : ℕ) → T u w → R u v → S v w
+
+-- of a list l, and the list m of its voxels carried by R
+module _ {D : ℕ} {R S T : ℕ → ℕ → Type 0} (k : Then D R S T) (l m : List ℕ) (first : Accepted D R l) (x : ListOf D (FromBlack D R l) m) where
+  -- where a black voxel of m came from
+  came-from : (v : ℕ) → black D m v ≡ true → FromBlack D R l v
+  came-from v b = x .exactly v (black-in-root D 0 m (x .good .ordered) v b) .0 b
+
+  pub accepted-then : Accepted D S m ↔ Accepted D T l
+  accepted-then = (
+    λ second u b.
+        let (v, c) = first u b in
+        let (w, f) = second v (x .exactly v (k .root u v c) .1 (u, b, c)) in
+        (w, k .both u v w c f),
+    λ all v b.
+        let (u, a, c) = came-from v b in
+        let (w, s) = all u a in
+        (w, k .rest u v w s c),
+  )
+
+  pub carried-then : (w : ℕ) → FromBlack D S m w ↔ FromBlack D T l w
+  carried-then w = (
+    λ (v, b, f).
+        let (u, a, c) = came-from v b in
+        (u, a, k .both u v w c f),
+    λ (u, a, s).
+        let (v, c) = first u a in
+        (v, x .exactly v (k .root u v c) .1 (u, a, c), k .rest u v w s c),
+  )
+
+-- ---- what carrying keeps
+
 module _ (D : ℕ) (R : ℕ → ℕ → Type 0) (carrying : Carrying D R) where
   -- a voxel of the carried list m has the colour that the voxel it came from has in l
   pub colour-carried : (l m : List ℕ) → Good D l → ListOf D (FromBlack D R l) m → (u v : ℕ) → u < 8 ^ D → R u v → black D m v ≡ black D l u

@@ -119,6 +119,14 @@ module _ {D n : ℕ} {l : List ℕ} {s : Slot} (x : OfCell D l n s) (mixed : Slo
       let e = suc-mul (x .cell) (8 ^ n) in
       omega (arith, small-before D (getD l i 0) (slot-proper i q) (suc (x .cell)) n (omega (arith, slot-less i p q)) (omega (arith, x .part .leaves .meets i p q .0)))
 
+  -- it has children
+  pub slot-parent : 1 ≤ n
+  slot-parent = ⊎-elim (λ (z : n ≤ 0). let e : n ≡ 0 = omega arith in absurd (omega (arith, mixed .1, span-pos D (getD l (s .lo) 0), ap (λ (j : ℕ). 8 ^ j) e))) (λ h. h) (le-or-lt n 0)
+
+  -- with j levels left under each
+  pub slot-above : (j : ℕ) → suc j ≡ n → OfCell D l (suc j) s × SlotTint D l (8 ^ suc j) s Mixed
+  slot-above j level = rw level (x, mixed)
+
   -- where the cell is, as the code finds it
   pub slot-cell : start D (getD l (s .lo) 0) / 8 ^ n ≡ x .cell
   slot-cell =

@@ -10,4 +10,4 @@ backwards-spec =
     tie.close
     (tie.spec
     (λ c κs. search needs) (λ c κs. search needs) (λ c κs. search needs) (λ c κs. search needs)
-    (λ c. let at-turn3 = c .before in let at-turn2 = at-turn3 .before in rw (c .number-of .ensures, at-turn2 .before .turn .ensures, at-turn2 .turn2 .ensures, at-turn3 .turn3 .ensures)))
+    (λ c. let at-reverse3 = c .before in let at-reverse2 = at-reverse3 .before in rw (c .number-of .ensures, at-reverse2 .before .reverse .ensures, at-reverse2 .reverse2 .ensures, at-reverse3 .reverse3 .ensures)))

@@ -9,8 +9,9 @@ use borrow.Fn.PlainCycle.{Measures, is, falls, and}
 use Rattle.records.specs.Slot.{SlotTint}
 use Rattle.records.specs.declared.inner.slots.Tint.{Tint}
 use Rattle.records.specs.declared.inner.slots.Tint.the-variants.{White, Black, Mixed}
+use Rattle.records.proofs.SlotLaws.{slot-parent, slot-above}
 use Rattle.df.specs.Inner.{Spelling}
-use Rattle.df.proofs.Spelled.{spelled-leaf, mixed-parent, parent-slot, spelling-children, spelled-gray, TextsPut, texts-none, texts-room, texts-more, texts-all}
+use Rattle.df.proofs.Spelled.{spelled-leaf, spelling-children, spelled-gray, TextsPut, texts-none, texts-room, texts-more, texts-all}
 use Rattle.df.proofs.inner.spelling.put_cell.Reads as put-cell
 use Rattle.df.proofs.inner.spelling.put_cell.Kinds as put-cell-kinds
 use Rattle.df.proofs.inner.spelling.+put_cell+put_children.Lts-put_cell as put-cell-lts
@@ -71,7 +72,7 @@ module _ (t : ℕ) (q : put-cell-lts.After-enum-told3 (cell-calls t) (put-cell-a
   mixed = told t at-tint-slot Mixed (q .enum-told3 .given .1)
 
   parent : 1 ≤ start t at-tint-slot .args .k
-  parent = mixed-parent (spelling t at-tint-slot) mixed
+  parent = slot-parent (spelling t at-tint-slot .held) mixed
 
   level : suc (start t at-tint-slot .args .k - 1) ≡ start t at-tint-slot .args .k
   level = omega (arith, parent)
@@ -93,7 +94,7 @@ pub +put-cell+put-children-spec : {M : Type 1} → statement M
     (λ c κs. let x = c .before .before .before .pre .1 .held in (x .source, x .part .leaves .within))
     (λ c. search needs) (λ c κs. search needs) (λ c. search needs) (λ c κs. search needs) (λ c. search needs)
     (λ c. parent t c)
-    (λ c κs. parent-slot (spelling t (at-tint-slot t c)) (mixed t c) _ (level t c))
+    (λ c κs. slot-above (spelling t (at-tint-slot t c) .held) (mixed t c) _ (level t c))
     (λ c κs. search needs)
     (λ c. parent t (c .before .before .before .before .before))
     (λ c κs.

@@ -1,20 +1,20 @@
--- `moves::inner::turn` meets its contract: the side is not 0, and what is added is less than two sides. Assumes nothing.
+-- `moves::inner::reverse` meets its contract: the side is not 0, and what is added is less than two sides. Assumes nothing.
 use Prim.Native.Nat.{_<_}
 use native.Mathlib.Nat.{mod-lt}
 use native.Mathlib.Omega.{arith}
 use borrow.Author.Needs.{needs}
 use Rattle.cells.proofs.Power.{pow2-pos}
 use Rattle.cells.proofs.Words.{pow2-small}
-use Rattle.moves.specs.Inner.{turned}
-use Rattle.moves.proofs.inner.turn.Statement.{statement}
-use Rattle.moves.proofs.inner.turn.Tie as tie
+use Rattle.moves.specs.Inner.{reversed}
+use Rattle.moves.proofs.inner.reverse.Statement.{statement}
+use Rattle.moves.proofs.inner.reverse.Tie as tie
 
 some : (c : tie.After-pow2) → 0 < c .pow2 .result
 some c = omega (arith, c .pow2 .ensures, pow2-pos (c .before .args .depth))
 
-pub turn-spec : {M : Type 1} → statement M
-unfolding turned
-turn-spec =
+pub reverse-spec : {M : Type 1} → statement M
+unfolding reversed
+reverse-spec =
     tie.close
     (tie.spec
     (λ c κs. search needs)
