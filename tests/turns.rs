@@ -153,12 +153,9 @@ fn laws(run: &mut Run) {
         added_up(run, 1, &list);
         let other = lists::good(run, 1, 4);
         carried_through(run, 1, &list, &other);
-    }
-    for depth in 0..3 {
-        let most = run.one_of(&[1, 2, 6]);
-        let list = lists::good(run, depth, most);
-        for d in moves::every(depth) {
-            moved(run, depth, &list, d);
+        // by up to 2 along each axis
+        for d in moves::every(0) {
+            moved(run, 1, &list, d);
         }
     }
     for _ in 0..run.cases / 4 {
@@ -172,8 +169,10 @@ fn laws(run: &mut Run) {
         let depth = run.one_of(&[1, 2, 3, 4, 10, 10]);
         let most = run.one_of(&[1, 2, 8]);
         let list = moves::movable(run, depth, most);
-        let d = moves::displacement(run, depth);
-        moved(run, depth, &list, d);
+        for _ in 0..3 {
+            let d = moves::displacement(run, depth);
+            moved(run, depth, &list, d);
+        }
     }
 }
 

@@ -99,7 +99,11 @@ pub fn turn_children(
             turns: turns,
         };
         let part = source_label(turns, m) as usize;
-        s = turn_cell(depth, l, child, parts[part], s, out);
+        let slot = parts[part];
+        // most children are white: they take no call
+        if slot.lo < slot.hi {
+            s = turn_cell(depth, l, child, slot, s, out);
+        }
         v += span;
         m += 1;
     }

@@ -1,6 +1,7 @@
 -- The proof of the cycle of calls {turn_cell, turn_children}. The measures are 2 * k and 2 * k + 1, k the levels left. Assumes nothing.
 use mathlib.Core.Path.{_≡_, refl, ap, _∙_, subst₂}
-use mathlib.Core.Bool.{Bool, true, false}
+use mathlib.Core.Bool.{true, false}
+use mathlib.Core.Logic.{⊎-elim}
 use Prim.Native.Nat.{ℕ, suc, _+_, _-_, _*_, _^_, _≤_, _<_}
 use native.Mathlib.Omega.{arith}
 use borrow.Author.Needs.{needs}
@@ -10,13 +11,13 @@ use Rattle.cells.proofs.Power.{pow8-pos, pow8-suc}
 use Rattle.cells.proofs.Words.{pow8-small}
 use Rattle.records.specs.Slot.{SlotTint, slotAt}
 use Rattle.records.specs.declared.inner.slots.Tint.{Tint}
-use Rattle.records.specs.declared.inner.slots.Tint.the-variants.{Mixed}
+use Rattle.records.specs.declared.inner.slots.Tint.the-variants.{White, Mixed}
 use Rattle.records.proofs.Edges.{child-within}
 use Rattle.records.proofs.SlotLaws.{slot-parent, slot-above}
 use Rattle.emit.specs.Inner.{Next}
 use Rattle.emit.proofs.Runs.{fed-white, fed-to}
 use Rattle.emit.proofs.Children.{Children, children-none, children-more, children-all}
-use Rattle.turns.specs.Inner.{turned, Turning, KidsTurning}
+use Rattle.turns.specs.Inner.{sourceLabel, turned, Turning, KidsTurning}
 use Rattle.turns.proofs.Targets.{turning-slot, turning-colour, turning-children, child-turning}
 use Rattle.turns.proofs.inner.turn_cell.Reads as turn-cell
 use Rattle.turns.proofs.inner.turn_cell.Kinds as turn-cell-kinds
@@ -114,6 +115,12 @@ module _ (t : ℕ) (p : turn-children-lts.In-loop (children-calls t) (turn-child
   abbrev wide-child : p .before .before .pow8 .result ≡ 8 ^ entry .args .c .k
   wide-child = p .before .before .pow8 .ensures
 
+  -- child m, with the part that the label picks
+  child : (a : ℕ) → a ≡ sourceLabel (entry .args .c .turns) (here .m) → Turning (entry .args .depth) (entry .args .l .now) (record { from = here .v; k = entry .args .c .k; turns = entry .args .c .turns }) (slotAt (entry .args .t4) a) (here .s)
+  child a label =
+      let place = here .inv .place ∙ ap (λ (y : ℕ). entry .args .c .from + here .m * y) wide-child in
+      child-turning kids (here .m) a (here .v) (p .loop-test .taken) label place (here .inv .fed .ready)
+
   -- child m ends within the root
   within-root : here .v + p .before .before .pow8 .result ≤ 8 ^ entry .args .depth
   within-root = omega (arith, child-within (here .m) (p .before .before .pow8 .result) (p .loop-test .taken), pow8-suc (entry .args .c .k), wide-child, here .inv .place, kids .root)
@@ -155,16 +162,21 @@ pub +turn-cell+turn-children-spec : {M : Type 1} → statement M
     (λ c. omega (arith, c .source-label .ensures .1))
     (λ c. c .source-label .ensures .1)
     (λ c κs.
-    let at-label = c .before .before in
+    let at-label = c .before .before .before .before in
     let in-loop = at-label .before in
-    let place = here t in-loop .inv .place ∙ ap (λ (y : ℕ). entry t in-loop .args .c .from + here t in-loop .m * y) (wide-child t in-loop) in
-    (omega (arith, entry t in-loop .pre .0), child-turning (kids t in-loop) (here t in-loop .m) (at-label .source-label .result) (here t in-loop .v) (in-loop .loop-test .taken) (at-label .source-label .ensures .0) place (here t in-loop .inv .fed .ready)))
-    (λ c. let in-loop = c .before .before .before .before .before .before in record { fits = omega (arith, within-root t in-loop, pow8-small (entry t in-loop .args .depth) (kids t in-loop .source .deep)) })
+    (omega (arith, entry t in-loop .pre .0), child t in-loop (at-label .source-label .result) (at-label .source-label .ensures .0)))
+    (λ c. let in-loop = c .before .before .before .before in record { fits = omega (arith, within-root t in-loop, pow8-small (entry t in-loop .args .depth) (kids t in-loop .source .deep)) })
     (λ c. search needs) (λ c. search needs)
     (λ c.
-    let at-turn-cell = c .before .before in
-    let in-loop = at-turn-cell .before .before .before .before in
-    children-more (here t in-loop .inv) (in-loop .loop-test .taken) (wide-child t in-loop) (at-turn-cell .turn-cell .kept .1 .1 .1 .1 .1 .0) (at-turn-cell .turn-cell .ensures))
+    let at-label = c .before .before .before in
+    let in-loop = at-label .before in
+    let inv = here t in-loop .inv in
+    ⊎-elim
+    (λ w. rw (w .5, w .6) (children-more inv (in-loop .loop-test .taken) (wide-child t in-loop) (w .2 .kept .1 .1 .1 .1 .1 .0) (w .2 .ensures)))
+    (λ w.
+    let x = child t in-loop (at-label .source-label .result) (at-label .source-label .ensures .0) in
+    rw (w .1, w .2) (children-more inv (in-loop .loop-test .taken) (wide-child t in-loop) refl (fed-white _ _ _ _ _ _ (omega arith) (x .root) (turning-colour x {tint = White} (w .0 .left) false refl) (x .ready))))
+    (c .if1 .came))
     (λ c. c .before .loop .inv .size)
     (λ c.
     let k = c .before .before .before .before .before .args .c .k in
