@@ -1,7 +1,7 @@
 -- The impostors of document 01, "How tight the statements are", for the call that turns a list: what each would leave at a named input does not fit the call's
 -- definition. Two of them keep the law that turns add up. Assumes nothing.
 use mathlib.Core.Path.{_≡_, sym, ap, _∙_, subst}
-use mathlib.Core.List.{List, [], _∷_}
+use mathlib.Core.List.{List, []}
 use Prim.Native.Nat.{ℕ, _+_, _*_, _/_, _%_}
 use native.Mathlib.Omega.{arith}
 use Rattle.cells.specs.Answer.{answer, given}
@@ -12,7 +12,7 @@ use Rattle.turns.proofs.TurnLaws.{one-turn}
 use Rattle.turns.proofs.Instances.{two-places, turn-holds, turn-holds-thrice, turn-holds-still, turn-crowded-holds}
 use Rattle.demands.specs.Examples.{r0}
 use Rattle.demands.specs.Impostors.{otherWay, unturned}
-use Rattle.demands.specs.Laws.{Succeeds, wrote}
+use Rattle.demands.specs.Laws.{Succeeds}
 use Rattle.demands.specs.Turns.{turn, TurnsAddUp}
 use Rattle.demands.proofs.Outcomes.{numberOf, placeOf, frontOf}
 use Rattle.demands.proofs.Turns.{turns-add-up}

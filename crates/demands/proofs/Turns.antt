@@ -3,7 +3,7 @@
 use mathlib.Core.Path.{_≡_, refl, sym, ap, _∙_, subst, subst₂}
 use mathlib.Core.Logic.{_⊎_, _↔_, inl, inr}
 use mathlib.Core.Bool.{true}
-use mathlib.Core.List.{List, [], _∷_}
+use mathlib.Core.List.{List}
 use Prim.Native.Nat.{ℕ, _+_, _*_, _%_, _^_, _<_, _≤_}
 use native.Mathlib.Omega.{arith}
 use lib.IntN.{ℤ, negℤ}
@@ -15,7 +15,7 @@ use Rattle.cells.proofs.Decisions.{passes, deep-enough}
 use Rattle.cells.proofs.Displacements.{displaced-parts, one-came}
 use Rattle.cells.proofs.Integers.{above-negated, below-negated}
 use Rattle.cells.proofs.Places.{each-axis}
-use Rattle.records.specs.Record.{black, Good, ListOf}
+use Rattle.records.specs.Record.{black, Good}
 use Rattle.records.specs.Carried.{FromBlack}
 use Rattle.records.specs.Writing.{WritesListOf}
 use Rattle.records.proofs.Carrying.{Accepted, Then, accepted-then, carried-then}

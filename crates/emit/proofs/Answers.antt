@@ -12,7 +12,7 @@ use Rattle.cells.specs.Answer.{answer, given}
 use Rattle.cells.specs.declared.Answer.{Answer}
 use Rattle.cells.proofs.Decisions.{One}
 use Rattle.records.specs.Record.{ListOf}
-use Rattle.records.specs.Writing.{stands, WritesListOf}
+use Rattle.records.specs.Writing.{WritesListOf}
 use Rattle.records.proofs.OneList.{one-list, list-same}
 use Rattle.emit.specs.Inner.{Result}
 use Rattle.records.proofs.Writing.{sets-front, sets-empty, one-writes, too-short, standing}

@@ -2,13 +2,12 @@
 -- the source's children in another order. Assumes nothing.
 use mathlib.Core.Path.{_≡_, refl, sym, ap, _∙_}
 use mathlib.Core.Bool.{Bool, true, false}
-use mathlib.Core.List.{List, [], _∷_}
-use Prim.Native.Nat.{ℕ, zero, suc, _+_, _-_, _*_, _/_, _%_, _^_, _<_, _≤_}
+use mathlib.Core.List.{List}
+use Prim.Native.Nat.{ℕ, zero, suc, _+_, _-_, _*_, _%_, _^_, _<_}
 use native.Mathlib.Nat.{zero-add}
 use native.Mathlib.Omega.{arith}
 use lib.ListN.{length, length-append}
 use Rattle.cells.proofs.Bools.{clash}
-use Rattle.cells.proofs.Power.{pow8-pos, pow8-suc}
 use Rattle.records.specs.Record.{black, Good}
 use Rattle.records.specs.Fault.{allFrom}
 use Rattle.records.proofs.Edges.{inside}

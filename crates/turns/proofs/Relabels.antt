@@ -1,6 +1,6 @@
 -- Laws of `relabel`, the labels of a number changed one by one: a cell and what lies in it, two changes one after the other, changes that agree. Assumes nothing.
-use mathlib.Core.Path.{_≡_, refl, sym, ap, ap₂, _∙_}
-use Prim.Native.Nat.{ℕ, zero, suc, _+_, _-_, _*_, _/_, _%_, _^_, _<_, _≤_, zero-le, suc-le-suc}
+use mathlib.Core.Path.{_≡_, refl, ap, _∙_}
+use Prim.Native.Nat.{ℕ, zero, suc, _+_, _*_, _/_, _%_, _^_, _<_, zero-le, suc-le-suc}
 use native.Mathlib.Nat.{add-suc, add-zero, mul-one, pow-zero}
 use native.Mathlib.Omega.{arith}
 use Rattle.cells.proofs.Power.{pow8-suc}

@@ -65,7 +65,7 @@ module _ (D : ℕ) where
   source-sum n k j v e =
       relabel-then (sourceLabel n) (source-lt n) (sourceLabel k) D v ∙ relabel-same (λ m. sourceLabel k (sourceLabel n m)) (sourceLabel (k + n)) (λ m l. source-before n k m) D v ∙ source-alike (k + n) j v e
 
-  -- three times as many turns take a voxel back to its source
+  -- three times as many turns and n turns bring a voxel back
   pub source-target : (n v : ℕ) → v < 8 ^ D → sourceOf n D (sourceOf (3 * n) D v) ≡ v
   source-target n v h = source-sum (3 * n) n 0 v (omega arith) ∙ source-none v h
 
@@ -85,7 +85,7 @@ module _ (D : ℕ) where
       let w : ℕ = relabel fromLabel D v in
       (w, subst (λ (u : ℕ). Turned D n u w) (source-suc n v) (turned-source n w (relabel-lt fromLabel (λ m l. from-lt m) D v)), quarter-source v h)
 
-  pub turned-to : (n u v : ℕ) → v < 8 ^ D → u ≡ sourceOf n D v → Turned D n u v
+  turned-to : (n u v : ℕ) → v < 8 ^ D → u ≡ sourceOf n D v → Turned D n u v
   turned-to n u v h e = subst (λ (x : ℕ). Turned D n x v) (sym e) (turned-source n v h)
 
   -- where a voxel comes to

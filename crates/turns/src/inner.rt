@@ -8,10 +8,9 @@ use records::inner::slots::Tint;
 use records::inner::slots::cut_slot;
 use records::inner::slots::tint_slot;
 ghost use mathlib.Core.Path.{_≡_};
-ghost use Prim.Native.Nat.{suc, _+_, _*_, _<_, _≤_, _^_};
+ghost use Prim.Native.Nat.{suc, _+_, _<_, _^_};
 ghost use Rattle.emit.specs.Inner.{Fed, Result};
 ghost use Rattle.records.specs.Slot.{Source};
-ghost use Rattle.turns.specs.Turns.{mostTurns};
 ghost use Rattle.turns.specs.Inner.{labelOf, sourceLabel, turned, Turning, KidsTurning};
 
 // A target cell: its least voxel, the levels below it, and how many turns it comes by.

@@ -1,11 +1,11 @@
 -- `turns::turn_list` meets its contract: the list's tests, the turn number's, and then the room, which is that of the list's own leaves. Assumes nothing.
-use mathlib.Core.Path.{_≡_, refl, sym, ap}
+use mathlib.Core.Path.{_≡_, refl, ap}
 use mathlib.Core.Logic.{inl, inr}
 use mathlib.Core.List.{List, [], _∷_}
-use Prim.Native.Nat.{ℕ, _≤_}
+use Prim.Native.Nat.{ℕ}
 use native.Mathlib.Omega.{arith}
 use borrow.Author.Needs.{needs}
-use Rattle.cells.specs.Answer.{Test, Decided, keeping}
+use Rattle.cells.specs.Answer.{Decided, keeping}
 use Rattle.cells.specs.declared.Answer.{Answer}
 use Rattle.cells.proofs.Decisions.{passes, deep-enough, opening-refuses, opening-passes, opening-known}
 use Rattle.records.specs.Carried.{FromBlack}
