@@ -1,13 +1,15 @@
 //! Each public job against a plain Rust program that does the same, on the same inputs, in one run: medians in microseconds, and their ratio.
 //!
 //!     bench            the table
+//!     bench bits       its rows of the plain engine alone
 //!     bench visited    target cells visited per output leaf, for each shape and move
+mod bits;
 mod ours;
 mod plain;
 mod shapes;
 
 use plain::{Answer, Op};
-use shapes::{Step, DEPTH, LEAVES};
+use shapes::{Step, BITS_DEPTH, DEPTH, LEAVES};
 use std::time::Instant;
 
 const MOVES: [[i32; 3]; 4] = [[1, 0, 0], [1, 1, 1], [2, 2, 2], [256, 0, 0]];
@@ -48,8 +50,36 @@ fn all_neighbours(cells: &[Step], one: impl Fn(u32, u32, [i32; 3]) -> Answer) ->
     sum
 }
 
-fn table() {
+fn head() {
     println!("| shape | job | proved, us | plain Rust, us | ratio |\n|---|---|---|---|---|");
+}
+
+/// The plain engine: one bit a voxel, at its greatest depth.
+fn on_bits() {
+    let mut out = vec![0u8; 1 << 15];
+    let mut twin = out.clone();
+    let mut room = vec![0u32; 1 << 18];
+    let mut other = room.clone();
+    for shapes::Bits { name, first, second } in shapes::all_bits() {
+        row(name, "to a list", 31, || ours::bits_to(BITS_DEPTH, &first, &mut room), || bits::to(BITS_DEPTH, &first, &mut other));
+        assert!(room == other, "{name} as a list");
+        let list = &room[..bits::to(BITS_DEPTH, &first, &mut other).place as usize];
+        row(name, "from the list", 31, || ours::bits_from(BITS_DEPTH, list, &mut out), || bits::from(BITS_DEPTH, list, &mut twin));
+        assert!(out == first && twin == first, "{name} from its list");
+        for (job, op) in [("join", Op::Join), ("intersection", Op::Meet), ("difference", Op::Less)] {
+            row(name, job, 31, || ours::bits_set(op, BITS_DEPTH, &first, &second, &mut out), || bits::set(op, BITS_DEPTH, &first, &second, &mut twin));
+            assert!(out == twin, "{name} {job}");
+        }
+        for d in [[1, 0, 0], [1, 1, 1]] {
+            let job = format!("move by {d:?}");
+            row(name, &job, 31, || ours::bits_shift(BITS_DEPTH, &first, d, &mut out), || bits::shift(BITS_DEPTH, &first, d, &mut twin));
+            assert!(out == twin, "{name} {job}");
+        }
+    }
+}
+
+fn table() {
+    head();
     let mut room = vec![0u32; 1 << 20];
     let mut other = vec![0u32; 1 << 20];
     // 16,384 codes take 135 blocks
@@ -80,6 +110,7 @@ fn table() {
         row(s.name, "df read", 101, || ours::df_read(DEPTH, &text, &mut room), || plain::df_read(DEPTH, &text, &mut other));
         assert!(room[..LEAVES] == s.first[..] && other[..LEAVES] == s.first[..], "{} read again", s.name);
     }
+    on_bits();
 }
 
 fn visited() {
@@ -95,7 +126,11 @@ fn visited() {
 fn main() {
     match std::env::args().nth(1).as_deref() {
         None => table(),
+        Some("bits") => {
+            head();
+            on_bits();
+        }
         Some("visited") => visited(),
-        Some(_) => println!("bench [visited]"),
+        Some(_) => println!("bench [bits | visited]"),
     }
 }

@@ -14,6 +14,12 @@ extern "C" {
     fn probe_df_write(depth: u32, list: *const u32, list_len: usize, bytes: *mut u8, room: usize, answer: *mut u64, len: usize);
     fn probe_move(depth: u32, list: *const u32, list_len: usize, dx: i32, dy: i32, dz: i32, out: *mut u32, room: usize, answer: *mut u64, len: usize);
     fn probe_turn(depth: u32, list: *const u32, list_len: usize, turns: u32, out: *mut u32, room: usize, answer: *mut u64, len: usize);
+    fn probe_bits_from(depth: u32, list: *const u32, list_len: usize, bits: *mut u8, room: usize, answer: *mut u64, len: usize);
+    fn probe_bits_to(depth: u32, bits: *const u8, bits_len: usize, out: *mut u32, room: usize, answer: *mut u64, len: usize);
+    fn probe_bits_move(depth: u32, bits: *const u8, bits_len: usize, dx: i32, dy: i32, dz: i32, out: *mut u8, room: usize, answer: *mut u64, len: usize);
+    fn probe_bits_join(depth: u32, a: *const u8, a_len: usize, b: *const u8, b_len: usize, out: *mut u8, room: usize, answer: *mut u64, len: usize);
+    fn probe_bits_meet(depth: u32, a: *const u8, a_len: usize, b: *const u8, b_len: usize, out: *mut u8, room: usize, answer: *mut u64, len: usize);
+    fn probe_bits_less(depth: u32, a: *const u8, a_len: usize, b: *const u8, b_len: usize, out: *mut u8, room: usize, answer: *mut u64, len: usize);
 }
 
 #[link(name = "cab", kind = "static")]
@@ -73,4 +79,25 @@ pub fn df_write(depth: u32, list: &[u32], bytes: &mut [u8]) -> Answer {
 
 pub fn df_read(depth: u32, text: &[u8], out: &mut [u32]) -> Answer {
     told(|p, n| unsafe { probe_df_read(depth, text.as_ptr(), text.len(), out.as_mut_ptr(), out.len(), p, n) })
+}
+
+pub fn bits_from(depth: u32, list: &[u32], bits: &mut [u8]) -> Answer {
+    told(|p, n| unsafe { probe_bits_from(depth, list.as_ptr(), list.len(), bits.as_mut_ptr(), bits.len(), p, n) })
+}
+
+pub fn bits_to(depth: u32, bits: &[u8], out: &mut [u32]) -> Answer {
+    told(|p, n| unsafe { probe_bits_to(depth, bits.as_ptr(), bits.len(), out.as_mut_ptr(), out.len(), p, n) })
+}
+
+pub fn bits_shift(depth: u32, bits: &[u8], d: [i32; 3], out: &mut [u8]) -> Answer {
+    told(|p, n| unsafe { probe_bits_move(depth, bits.as_ptr(), bits.len(), d[0], d[1], d[2], out.as_mut_ptr(), out.len(), p, n) })
+}
+
+pub fn bits_set(op: Op, depth: u32, a: &[u8], b: &[u8], out: &mut [u8]) -> Answer {
+    let call = match op {
+        Op::Join => probe_bits_join,
+        Op::Meet => probe_bits_meet,
+        Op::Less => probe_bits_less,
+    };
+    told(|p, n| unsafe { call(depth, a.as_ptr(), a.len(), b.as_ptr(), b.len(), out.as_mut_ptr(), out.len(), p, n) })
 }

@@ -7,7 +7,7 @@ pub struct Answer {
     pub list: u32,
 }
 
-fn told(number: u32, place: u64, list: u32) -> Answer {
+pub fn told(number: u32, place: u64, list: u32) -> Answer {
     Answer { number, place, list }
 }
 
@@ -16,11 +16,11 @@ fn proper(depth: u32, code: u32) -> bool {
     zeros < 32 && (31 - zeros) % 3 == 0 && (31 - zeros) / 3 <= depth
 }
 
-fn width(depth: u32, code: u32) -> u32 {
+pub fn width(depth: u32, code: u32) -> u32 {
     1 << (3 * depth + code.leading_zeros() - 31)
 }
 
-fn start(depth: u32, code: u32) -> u32 {
+pub fn start(depth: u32, code: u32) -> u32 {
     code * width(depth, code) - (1 << (3 * depth))
 }
 
@@ -81,7 +81,7 @@ fn judged(depth: u32, codes: impl Iterator<Item = u32>) -> Result<u32, (u32, u64
     Ok(sum)
 }
 
-fn refused(depth: u32, lists: &[&[u32]]) -> Option<Answer> {
+pub fn refused(depth: u32, lists: &[&[u32]]) -> Option<Answer> {
     if depth > 10 {
         return Some(told(1, 0, 0));
     }
@@ -103,7 +103,7 @@ pub fn volume(depth: u32, list: &[u32]) -> Answer {
 }
 
 /// The pending black run, and the codes written before it.
-struct Emitter<'a> {
+pub struct Emitter<'a> {
     depth: u32,
     from: u32,
     to: u32,
@@ -112,7 +112,7 @@ struct Emitter<'a> {
 }
 
 impl<'a> Emitter<'a> {
-    fn new(depth: u32, out: Option<&'a mut [u32]>) -> Emitter<'a> {
+    pub fn new(depth: u32, out: Option<&'a mut [u32]>) -> Emitter<'a> {
         Emitter { depth, from: 0, to: 0, at: 0, out }
     }
 
@@ -131,7 +131,7 @@ impl<'a> Emitter<'a> {
         }
     }
 
-    fn black(&mut self, from: u32, to: u32) {
+    pub fn black(&mut self, from: u32, to: u32) {
         if self.to != from {
             self.flush();
             self.from = from;
@@ -139,7 +139,7 @@ impl<'a> Emitter<'a> {
         self.to = to;
     }
 
-    fn finish(mut self) -> usize {
+    pub fn finish(mut self) -> usize {
         self.flush();
         self.at
     }
@@ -339,11 +339,11 @@ impl Move<'_> {
     }
 }
 
-fn interleaved(depth: u32, at: [u32; 3]) -> u32 {
+pub fn interleaved(depth: u32, at: [u32; 3]) -> u32 {
     (0..depth).map(|bit| (0..3).map(|axis| (at[axis] >> bit & 1) << (3 * bit + axis as u32)).sum::<u32>()).sum()
 }
 
-fn coordinate(depth: u32, v: u32, axis: u32) -> i64 {
+pub fn coordinate(depth: u32, v: u32, axis: u32) -> i64 {
     (0..depth).map(|bit| ((v >> (3 * bit + axis) & 1) << bit) as i64).sum()
 }
 

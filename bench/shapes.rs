@@ -1,6 +1,11 @@
-//! Lists of 16,384 leaves at depth 10, of five shapes, each twice: as it is and displaced; and a million cells, each with a direction.
+//! Lists of 16,384 leaves at depth 10, of five shapes, each twice: as it is and displaced; a million cells, each with a direction; and bits of two shapes at depth 6.
+use crate::plain;
+
 pub const DEPTH: u32 = 10;
 pub const LEAVES: usize = 16_384;
+
+/// The greatest depth of the plain engine.
+pub const BITS_DEPTH: u32 = 6;
 
 pub struct Shape {
     pub name: &'static str,
@@ -161,5 +166,28 @@ pub fn all() -> Vec<Shape> {
         moved("trench", trench),
         Shape { name: "scatter", first: scatter(1), second: scatter(2) },
         Shape { name: "surface", first: surface([0; 3]), second: surface([5, 3, 0]) },
+    ]
+}
+
+/// One bit a voxel, twice.
+pub struct Bits {
+    pub name: &'static str,
+    pub first: Vec<u8>,
+    pub second: Vec<u8>,
+}
+
+/// The bits of the voxels that are black, by their coordinates.
+fn bits(mut black: impl FnMut([i64; 3]) -> bool) -> Vec<u8> {
+    let voxel = |v| [0, 1, 2].map(|axis| plain::coordinate(BITS_DEPTH, v, axis));
+    (0..1 << (3 * BITS_DEPTH - 3)).map(|byte| (0..8).map(|bit| (black(voxel(8 * byte + bit)) as u8) << bit).sum()).collect()
+}
+
+/// A sphere, as it is and displaced; and an eighth of the voxels at random, none on the three last faces, so that a move by one is accepted.
+pub fn all_bits() -> Vec<Bits> {
+    let sphere = |middle: i64| bits(|at| at.iter().map(|x| (x - middle).pow(2)).sum::<i64>() <= 20 * 20);
+    let scatter = |mut seed: u64| bits(|at| next(&mut seed) % 8 == 0 && at.iter().all(|x| *x < 63));
+    vec![
+        Bits { name: "sphere of bits", first: sphere(28), second: sphere(33) },
+        Bits { name: "scatter of bits", first: scatter(3), second: scatter(4) },
     ]
 }

@@ -1,6 +1,6 @@
 //! The archives' calls, made safe, and their answers read. A slice passes as a pointer and a length.
 
-use crate::model::Op;
+use crate::model::{Op, Said};
 
 #[link(name = "probe", kind = "static")]
 extern "C" {
@@ -49,6 +49,26 @@ extern "C" {
     fn probe_df_read(depth: u32, text: *const u8, text_len: usize, out: *mut u32, room: usize, answer: *mut u64, len: usize);
     fn probe_df_write(depth: u32, list: *const u32, list_len: usize, bytes: *mut u8, room: usize, answer: *mut u64, len: usize);
     fn probe_less(depth: u32, a: *const u32, a_len: usize, b: *const u32, b_len: usize, out: *mut u32, room: usize, answer: *mut u64, len: usize);
+    fn probe_bits_from(depth: u32, list: *const u32, list_len: usize, bits: *mut u8, room: usize, answer: *mut u64, len: usize);
+    fn probe_bits_to(depth: u32, bits: *const u8, bits_len: usize, out: *mut u32, room: usize, answer: *mut u64, len: usize);
+    fn probe_bits_move(depth: u32, bits: *const u8, bits_len: usize, dx: i32, dy: i32, dz: i32, out: *mut u8, room: usize, answer: *mut u64, len: usize);
+    fn probe_bits_move_metres(
+        depth: u32,
+        bits: *const u8,
+        bits_len: usize,
+        x: f64,
+        y: f64,
+        z: f64,
+        s: u32,
+        out: *mut u8,
+        room: usize,
+        answer: *mut u64,
+        len: usize,
+    );
+    fn probe_bits_join(depth: u32, a: *const u8, a_len: usize, b: *const u8, b_len: usize, out: *mut u8, room: usize, answer: *mut u64, len: usize);
+    fn probe_bits_meet(depth: u32, a: *const u8, a_len: usize, b: *const u8, b_len: usize, out: *mut u8, room: usize, answer: *mut u64, len: usize);
+    fn probe_bits_less(depth: u32, a: *const u8, a_len: usize, b: *const u8, b_len: usize, out: *mut u8, room: usize, answer: *mut u64, len: usize);
+    fn probe_bits_lookup(depth: u32, bits: *const u8, bits_len: usize, x: u32, y: u32, z: u32, answer: *mut u64, len: usize);
 }
 
 #[link(name = "cab", kind = "static")]
@@ -140,6 +160,14 @@ fn written<T: Copy + PartialEq>(guard: T, room: usize, call: impl FnOnce(*mut T)
 /// An answer, and what a call wrote.
 pub type Wrote<T> = Result<(Option<Answer>, Vec<T>), String>;
 
+/// What a call gives, or its refusal.
+pub fn given<T>(wrote: Wrote<T>) -> Said<T> {
+    match wrote.expect("a call that keeps what it was lent") {
+        (Some(answer), made) if answer.number == 0 => Ok(made),
+        (answer, _) => Err(answer.unwrap()),
+    }
+}
+
 /// The answer and the codes of the returned part, as many as the room takes.
 pub fn met(n: usize, room: usize, depth: u32, list: &[u32], code: u32, d: [i32; 3]) -> Wrote<u32> {
     let mut found = None;
@@ -213,6 +241,35 @@ pub fn df_write(n: usize, room: usize, depth: u32, list: &[u32]) -> Wrote<u8> {
 
 pub fn turn(n: usize, room: usize, depth: u32, list: &[u32], turns: u32) -> Wrote<u32> {
     lent(list, |l| wrote(WORD_GUARD, n, room, |out, p, len| unsafe { probe_turn(depth, l, list.len(), turns, out, room, p, len) }))
+}
+
+pub fn bits_from(n: usize, room: usize, depth: u32, list: &[u32]) -> Wrote<u8> {
+    lent(list, |l| wrote(BYTE_GUARD, n, room, |out, p, len| unsafe { probe_bits_from(depth, l, list.len(), out, room, p, len) }))
+}
+
+pub fn bits_to(n: usize, room: usize, depth: u32, bits: &[u8]) -> Wrote<u32> {
+    lent(bits, |b| wrote(WORD_GUARD, n, room, |out, p, len| unsafe { probe_bits_to(depth, b, bits.len(), out, room, p, len) }))
+}
+
+pub fn bits_shift(n: usize, room: usize, depth: u32, bits: &[u8], d: [i32; 3]) -> Wrote<u8> {
+    lent(bits, |b| wrote(BYTE_GUARD, n, room, |out, p, len| unsafe { probe_bits_move(depth, b, bits.len(), d[0], d[1], d[2], out, room, p, len) }))
+}
+
+pub fn bits_shift_metres(n: usize, room: usize, depth: u32, bits: &[u8], d: [f64; 3], s: u32) -> Wrote<u8> {
+    lent(bits, |b| wrote(BYTE_GUARD, n, room, |out, p, len| unsafe { probe_bits_move_metres(depth, b, bits.len(), d[0], d[1], d[2], s, out, room, p, len) }))
+}
+
+pub fn bits_set(op: Op, n: usize, room: usize, depth: u32, a: &[u8], b: &[u8]) -> Wrote<u8> {
+    let call = match op {
+        Op::Join => probe_bits_join,
+        Op::Meet => probe_bits_meet,
+        Op::Less => probe_bits_less,
+    };
+    lent(a, |x| lent(b, |y| wrote(BYTE_GUARD, n, room, |out, p, len| unsafe { call(depth, x, a.len(), y, b.len(), out, room, p, len) })))
+}
+
+pub fn bits_lookup(n: usize, depth: u32, bits: &[u8], at: [u32; 3]) -> Told {
+    lent(bits, |b| told(n, |p, len| unsafe { probe_bits_lookup(depth, b, bits.len(), at[0], at[1], at[2], p, len) }))
 }
 
 pub fn block_check(n: usize, bytes: &[u8]) -> Told {

@@ -2,6 +2,7 @@
 //! code. Every word of every lent buffer is compared, with guards around it.
 //!
 //!     outside [SEED [CASES]]     prints the seed, a line for each failure, and at last 'N passed, M failed'
+mod bits;
 mod blocks;
 mod cells;
 mod df;
@@ -32,6 +33,7 @@ fn main() {
     text::all(&mut run);
     df::all(&mut run);
     listing::all(&mut run);
+    bits::all(&mut run);
     println!("{} passed, {} failed", run.passed, run.failed);
     if run.failed > 0 || run.passed == 0 {
         std::process::exit(1);

@@ -202,6 +202,11 @@ pub fn number(depth: u32, at: [u32; 3]) -> u64 {
     interval(depth, code(depth, Cell { corner: at, level: depth })).unwrap().0
 }
 
+/// The coordinates of a voxel number.
+pub fn voxel(depth: u32, v: u64) -> [u32; 3] {
+    cell(depth, (1 << (3 * depth)) + v as u32).unwrap().corner
+}
+
 pub fn lookup_of(depth: u32, list: &[u32], at: [u32; 3]) -> Answer {
     if let Some(a) = refusal(depth, &[list]) {
         return a;
@@ -358,21 +363,26 @@ pub fn nearest(d: f64, s: u32) -> Option<i32> {
     i32::try_from(n).ok()
 }
 
+/// A move in metres as whole voxels, or its refusal.
+pub fn whole(d: [f64; 3], s: u32) -> Result<[i32; 3], Answer> {
+    if s > 10 {
+        return Err(answer(5, 3, 0));
+    }
+    let mut whole = [0; 3];
+    for axis in 0..3 {
+        whole[axis] = nearest(d[axis], s).ok_or(answer(5, axis as u64, 0))?;
+    }
+    Ok(whole)
+}
+
 pub fn metres_of(depth: u32, list: &[u32], d: [f64; 3], s: u32, room: usize) -> (Answer, Vec<u32>) {
     if let Some(refused) = refusal(depth, &[list]) {
         return (refused, Vec::new());
     }
-    if s > 10 {
-        return (answer(5, 3, 0), Vec::new());
+    match whole(d, s) {
+        Err(refused) => (refused, Vec::new()),
+        Ok(d) => shift_of(depth, list, d.map(i64::from), room),
     }
-    let mut whole = [0i64; 3];
-    for axis in 0..3 {
-        match nearest(d[axis], s) {
-            None => return (answer(5, axis as u64, 0), Vec::new()),
-            Some(n) => whole[axis] = n as i64,
-        }
-    }
-    shift_of(depth, list, whole, room)
 }
 
 // ---- stored blocks

@@ -59,7 +59,8 @@ const EDGES: [f64; 22] = [
     5e-324, -5e-324, f64::MAX, f64::INFINITY, f64::NEG_INFINITY, f64::NAN,
 ];
 
-fn coordinate(run: &mut Run, s: u32) -> f64 {
+/// A coordinate at such an edge, any float, or some halves or sixteenths of a voxel.
+pub fn coordinate(run: &mut Run, s: u32) -> f64 {
     match run.below(6) {
         0 => run.one_of(&EDGES),
         1 => run.one_of(&EDGES) / (1u64 << s.min(10)) as f64,

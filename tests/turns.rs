@@ -1,5 +1,5 @@
 //! Quarter turns. Where a list goes is decided twice: voxel by voxel up to depth 3, and leaf by leaf at any depth. Then the laws, by the calls alone.
-use crate::link;
+use crate::link::{self, given};
 use crate::lists;
 use crate::model::{self, told, Cell, Said};
 use crate::moves;
@@ -17,8 +17,7 @@ fn turned(depth: u32, at: [u32; 3], turns: u32) -> [u32; 3] {
 /// Each black voxel by itself, and the good list of where they go.
 fn by_voxels(depth: u32, list: &[u32], turns: u32) -> Vec<u32> {
     let goes = |v: u64| {
-        let at = model::cell(depth, (1 << (3 * depth)) + v as u32).unwrap().corner;
-        let to = model::number(depth, turned(depth, at, turns));
+        let to = model::number(depth, turned(depth, model::voxel(depth, v), turns));
         (to, to + 1)
     };
     model::good_list(depth, &model::union(model::black(depth, list).into_iter().flat_map(|r| r.0..r.1).map(goes).collect()))
@@ -96,14 +95,6 @@ fn settled(run: &mut Run) {
 }
 
 // ---- laws of the calls
-
-/// The list that a call gives, or its refusal.
-fn given(wrote: link::Wrote<u32>) -> Said<u32> {
-    match wrote.expect("a call that keeps what it was lent") {
-        (Some(answer), codes) if answer.number == 0 => Ok(codes),
-        (answer, _) => Err(answer.unwrap()),
-    }
-}
 
 fn turn(depth: u32, list: &[u32], turns: u32) -> Said<u32> {
     given(link::turn(8, list.len(), depth, list, turns))

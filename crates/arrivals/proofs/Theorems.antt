@@ -89,7 +89,7 @@ pub record TakenIn (D : ℕ) (a f : List ℕ) (m : Move) (r : Answer) (o' : List
   pub by : ℕ → ℤ
   pub becomes : Becomes m by
   pub joined : List ℕ
-  pub is-list : ListOf D (λ v. (black D a v ≡ true) ⊎ FromBlack D (Came D by) (codes f) v) joined
+  pub is-list : ListOf D (λ v. (black D a v ≡ true) ⊎ FromBlack (Came D by) (black D (codes f)) v) joined
   pub front : Front (fileOf D joined) (r .place) o'
 
 pub taken-in : (D : ℕ) (f : List ℕ) (m : Move) (w o : List ℕ) (r : Answer) (w' o' : List ℕ) → ArriveOf D f m w o (r, w', o') → r .number ≡ 0
@@ -98,6 +98,6 @@ taken-in D f m w o r w' o' d z a v p s v' p' e y =
     let came = arrive-success D f m w o r w' o' d z .move in
     let moved = came .result .made in
     let x = merge-success D a moved v p s v' p' (subst (λ (b : List ℕ). MergeOf D a b v p (s, v', p')) (came .result .front .is-front) e) y in
-    let Theirs = FromBlack D (Came D (came .by)) (codes f) in
+    let Theirs = FromBlack (Came D (came .by)) (black D (codes f)) in
     let same : (u : ℕ) → u < 8 ^ D → InResult Join D a moved u ↔ ((black D a u ≡ true) ⊎ Theirs u) = λ u h. (elim [ inl t ↦ inl t | inr t ↦ inr (came .result .is-list .exactly u h .0 t) ], elim [ inl t ↦ inl t | inr t ↦ inr (came .result .is-list .exactly u h .1 t) ]) in
     record { by = came .by; becomes = came .becomes; joined = x .joined; is-list = list-same D (InResult Join D a moved) _ (x .joined) same (x .is-list); front = x .front }

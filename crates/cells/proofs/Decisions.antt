@@ -1,6 +1,6 @@
 -- How a row of tests decides, and how it is met: where each test refuses with one answer at most and one thing at most holds past them, no second answer fits. Assumes nothing.
 use mathlib.Core.Path.{_≡_, refl, sym, ap, _∙_, subst⁻¹}
-use mathlib.Core.Logic.{inl, inr}
+use mathlib.Core.Logic.{_⊎_, inl, inr}
 use mathlib.Core.List.{List, [], _∷_, _++_}
 use Prim.Native.Nat.{ℕ, _≤_, _<_}
 use native.Mathlib.Omega.{arith}
@@ -66,10 +66,14 @@ decided-all refuse [] P Q r refused to d = to d
 decided-all refuse (F ∷ Fs) P Q r refused to (inl (a, t, e)) = subst⁻¹ Q e (refused a)
 decided-all refuse (F ∷ Fs) P Q r refused to (inr (n, d)) = decided-all refuse Fs P Q r refused to d
 
--- each test of a row refuses with a number that is not 0
+-- each test of a row refuses with answers that have T
+abbrev pub Telling : (Answer → Type 0) → List Test → Type 0
+Telling T [] = Unit {0}
+Telling T (F ∷ Fs) = ((a : Answer) → F a → T a) × Telling T Fs
+
+-- with a number that is not 0
 abbrev pub Numbered : List Test → Type 0
-Numbered [] = Unit {0}
-Numbered (F ∷ Fs) = ((a : Answer) → F a → a .number ≡ 0 → ⊥) × Numbered Fs
+Numbered = Telling (λ a. a .number ≡ 0 → ⊥)
 
 pub refuses-numbered : {q : Answer} {C : Type 0} → (q .number ≡ 0 → ⊥) → (a : Answer) → refuses q C a → a .number ≡ 0 → ⊥
 refuses-numbered n a (_, e) z = n (ap (λ (x : Answer). x .number) (sym e) ∙ z)
@@ -104,6 +108,15 @@ decided-passed number refuse reads (F ∷ Fs) P r (of-f, of-fs) z (inr (n, d)) =
 pub decided-next : {S : Type 0} (refuse : Answer → S) (Fs Gs : List Test) (Q : S → Type 0) (s : S) → Passed Fs → Decided refuse Gs Q s → Decided refuse (Fs ++ Gs) Q s
 decided-next refuse [] Gs Q s of-none d = d
 decided-next refuse (F ∷ Fs) Gs Q s (n, ns) d = inr (n, decided-next refuse Fs Gs Q s ns d)
+
+-- two calls that open with the same row: one test refuses both, with one answer, or both go on
+pub decided-both : {R S : Type 0} (refuse : Answer → R) (refuse′ : Answer → S) (Fs : List Test) (T : Answer → Type 0) → Ones Fs → Telling T Fs → (P : R → Type 0) (Q : S → Type 0) (r : R) (s : S)
+    → Decided refuse Fs P r → Decided refuse′ Fs Q s → ((a : Answer) × T a × (r ≡ refuse a) × (s ≡ refuse′ a)) ⊎ (P r × Q s)
+decided-both refuse refuse′ [] T ones tells P Q r s p q = inr (p, q)
+decided-both refuse refuse′ (F ∷ Fs) T (one, ones) (tell, tells) P Q r s (inl (a, f, e)) (inl (b, g, h)) = inl (a, tell a f, e, h ∙ ap refuse′ (one b a g f))
+decided-both refuse refuse′ (F ∷ Fs) T (one, ones) (tell, tells) P Q r s (inl (a, f, e)) (inr (none, q)) = absurd (none a f)
+decided-both refuse refuse′ (F ∷ Fs) T (one, ones) (tell, tells) P Q r s (inr (none, p)) (inl (b, g, h)) = absurd (none b g)
+decided-both refuse refuse′ (F ∷ Fs) T (one, ones) (tell, tells) P Q r s (inr (_, p)) (inr (_, q)) = decided-both refuse refuse′ Fs T ones tells P Q r s p q
 
 -- ---- a call that opens with another's tests: it asks that call, passes a refusal on, and goes on where its number is 0
 

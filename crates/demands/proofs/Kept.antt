@@ -11,11 +11,12 @@ use Rattle.cells.specs.Answer.{given, Test, Decided, keeping, deepest, TooDeep}
 use Rattle.cells.specs.declared.Answer.{Answer}
 use Rattle.cells.proofs.Decisions.{decided-all}
 use Rattle.cells.specs.Place.{axes, Came}
+use Rattle.records.specs.Record.{black}
 use Rattle.records.specs.Fault.{Faulty}
 use Rattle.records.specs.Carried.{FromBlack, Straying}
 use Rattle.records.specs.Writing.{stands, TooShort, WritesOf, WritesListOf}
 use Rattle.sets.specs.declared.Op.{Op}
-use Rattle.sets.specs.Sets.{InResult, SetOf}
+use Rattle.sets.specs.Sets.{Chosen, InResult, SetOf}
 use Rattle.metres.specs.Metres.{moveTests}
 use Rattle.metres.specs.declared.Move.{Move}
 use Rattle.moves.specs.Moves.{ShiftOf, MoveOf}
@@ -28,6 +29,8 @@ use Rattle.arrivals.specs.Arrivals.{Step, leaving, OtherDepth, ArriveOf, MergeO
 use Rattle.arrivals.proofs.Steps.{of-read, MovedFrom, Arrived, of-join, StoredAs, JoinedTo}
 use Rattle.df.specs.Df.{shows, Acceptable, WrongByte, StopsEarly, DfReadOf, DfOf, DfWriteOf}
 use Rattle.turns.specs.Turns.{Turned, NoTurn, TurnOf}
+use Rattle.plain.specs.Bits.{blackIn}
+use Rattle.plain.specs.Calls.{deepestPlain, BitsShort, GivesBits, ToBitsOf, ToListOf, SetBitsOf, Leaving, ShiftBitsOf, MoveBitsOf}
 use Rattle.demands.specs.Laws.{Kept, Keeps}
 use Rattle.demands.proofs.Outcomes.{Left}
 
@@ -59,8 +62,15 @@ module _ (o : List ℕ) (t : Left) where
   tested-keeps : (D : ℕ) (l w : List ℕ) → Decided (keeping o) (TooDeep deepest D ∷ Faulty D l 1 ∷ []) (WritesOf w o) t → KeptOf o t
   tested-keeps D l w = decided-keeps (TooDeep deepest D ∷ Faulty D l 1 ∷ []) (WritesOf w o) (writes-keeps w)
 
+  -- the bits of the voxels that have P are written
+  bits-keeps : (Fs : List Test) (D : ℕ) (P : ℕ → Type 0) → Decided (keeping o) Fs (GivesBits D P o) t → KeptOf o t
+  bits-keeps Fs D P = decided-keeps Fs (GivesBits D P o) (λ (b, _, e). rw e (kept-stands b o))
+
+  shift-bits-keeps : (D : ℕ) (b : List ℕ) (d : ℕ → ℤ) → ShiftBitsOf D b o d t → KeptOf o t
+  shift-bits-keeps D b d = bits-keeps (BitsShort D b ∷ BitsShort D o ∷ Leaving D (Came D d) (blackIn D b) ∷ []) D (FromBlack (Came D d) (blackIn D b))
+
   shift-keeps : (D : ℕ) (l : List ℕ) (d : ℕ → ℤ) → ShiftOf D l d o t → KeptOf o t
-  shift-keeps D l d = good-list-keeps (Straying D (Came D d) l ∷ []) D (FromBlack D (Came D d) l)
+  shift-keeps D l d = good-list-keeps (Straying D (Came D d) l ∷ []) D (FromBlack (Came D d) (black D l))
 
 -- ---- the calls
 
@@ -102,7 +112,21 @@ df-write-keeps D l o o' r d =
     decided-keeps o (r, o') (TooDeep deepest D ∷ Faulty D l 1 ∷ []) (λ s. (t : List ℕ) × DfOf D l t × WritesOf t o s) (λ (t, _, w). writes-keeps o (r, o') t w) d
 
 pub turn-keeps : (D : ℕ) (l : List ℕ) (n : ℕ) → Keeps (TurnOf D l n)
-turn-keeps D l n o o' r d = good-list-keeps o (r, o') (TooDeep deepest D ∷ Faulty D l 1 ∷ NoTurn n ∷ []) D (FromBlack D (Turned D n) l) d
+turn-keeps D l n o o' r d = good-list-keeps o (r, o') (TooDeep deepest D ∷ Faulty D l 1 ∷ NoTurn n ∷ []) D (FromBlack (Turned D n) (black D l)) d
+
+pub to-bits-keeps : (D : ℕ) (l : List ℕ) → Keeps (ToBitsOf D l)
+to-bits-keeps D l o o' r d = bits-keeps o (r, o') (TooDeep deepestPlain D ∷ Faulty D l 1 ∷ BitsShort D o ∷ []) D (λ v. black D l v ≡ true) d
+
+pub to-list-keeps : (D : ℕ) (b : List ℕ) → Keeps (ToListOf D b)
+to-list-keeps D b o o' r d = good-list-keeps o (r, o') (TooDeep deepestPlain D ∷ BitsShort D b ∷ []) D (λ v. blackIn D b v ≡ true) d
+
+pub set-bits-keeps : (op : Op) (D : ℕ) (a b : List ℕ) → Keeps (SetBitsOf op D a b)
+set-bits-keeps op D a b o o' r d =
+    bits-keeps o (r, o') (TooDeep deepestPlain D ∷ BitsShort D a ∷ BitsShort D b ∷ BitsShort D o ∷ []) D (λ v. Chosen op (blackIn D a v ≡ true) (blackIn D b v ≡ true)) d
+
+pub move-bits-keeps : (D : ℕ) (b : List ℕ) (m : Move) → Keeps (MoveBitsOf D b m)
+move-bits-keeps D b m o o' r d =
+    decided-keeps o (r, o') (TooDeep deepestPlain D ∷ moveTests m) _ (λ (dx, dy, dz, _, s). shift-bits-keeps o (r, o') D b (axes dx dy dz) s) d
 
 -- ---- the steps of the order's job, of the buffer of their result; w is the buffer for work, and w' what stands there afterwards
 

@@ -12,6 +12,8 @@ pub mod Room
 pub mod OverAndBack
 -- ticket 4: quarter turns
 pub mod Turns
+-- ticket 5: both engines
+pub mod Engines
 -- calls worked out, and the checked examples of document 01
 pub mod Agreement
 pub mod WorkedMoves
@@ -24,3 +26,4 @@ pub mod StoredImpostors
 pub mod TextImpostors
 pub mod DfImpostors
 pub mod TurnImpostors
+pub mod BitImpostors

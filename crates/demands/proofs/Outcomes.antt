@@ -84,19 +84,19 @@ same-set-alike D P Q r o s p same x y =
 module _ (D : ℕ) (l : List ℕ) (R : ℕ → ℕ → Type 0) (o o' : List ℕ) (r : Answer) where
   -- on a good list it is not accepted, or each black voxel stays and the list is written where there is room
   abbrev pub Outcome : Type 0
-  Outcome = (Unaccepted r × (Accepted D R l → ⊥)) ⊎ (Accepted D R l × WritesListOf D (FromBlack D R l) o (r, o'))
+  Outcome = (Unaccepted r × (Accepted D R l → ⊥)) ⊎ (Accepted D R l × WritesListOf D (FromBlack R (black D l)) o (r, o'))
 
   -- what success says
   pub record Moved : Type 0 where
     pub depth : D ≤ deepest
     pub good : Good D l
     pub accepted : Accepted D R l
-    pub gives : Gives D (FromBlack D R l) r o'
+    pub gives : Gives D (FromBlack R (black D l)) r o'
 
   pub outcome-moved : D ≤ deepest → Good D l → Succeeds r → Outcome → Moved
   outcome-moved h g z (inl (seven, _)) = let f : _≡_ {A = ℕ} 0 7 = sym z ∙ seven in absurd (omega arith)
   outcome-moved h g z (inr (ok, t)) =
-      record { depth = h; good = g; accepted = ok; gives = told-gives D (FromBlack D R l) o o' r t (λ e. let f : _≡_ {A = ℕ} 0 8 = sym z ∙ e in omega arith) }
+      record { depth = h; good = g; accepted = ok; gives = told-gives D (FromBlack R (black D l)) o o' r t (λ e. let f : _≡_ {A = ℕ} 0 8 = sym z ∙ e in omega arith) }
 
 -- M carries a list as R says, by each x that it takes
 pub record Carries {X : Type 0} (M : Carrier X) (R : ℕ → X → ℕ → ℕ → Type 0) (Takes : X → Type 0) : Type 0 where

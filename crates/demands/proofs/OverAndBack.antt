@@ -59,8 +59,8 @@ module _ (D : ℕ) (l : List ℕ) where
       inside : (u : ℕ) → black D l u ≡ true → u < 8 ^ D
       inside = black-in-root D 0 l (g .ordered)
 
-      itself : ListOf D (FromBlack D (Came D no-move) l) l
-      itself = list-same D (λ v. black D l v ≡ true) (FromBlack D (Came D no-move) l) l
+      itself : ListOf D (FromBlack (Came D no-move) (black D l)) l
+      itself = list-same D (λ v. black D l v ≡ true) (FromBlack (Came D no-move) (black D l)) l
           (λ v h. (λ b. (v, b, came-itself v h), λ (u, b, c). subst (λ (w : ℕ). black D l w ≡ true) (one-came D no-move u u v (came-itself u (inside u b)) c) b)) (list-of-itself D l g)
 
 -- ---- a move by metres: they are no whole move, or it is the move by the whole voxels that they become

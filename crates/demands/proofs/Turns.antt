@@ -42,7 +42,7 @@ every-turned D l n g u b = (sourceOf (3 * n) D u, turned-target D n u (black-in-
 
 module _ (D : ℕ) (l : List ℕ) (n : ℕ) (o o' : List ℕ) (r : Answer) where
   -- past the tests, the room decides
-  turn-told : D ≤ deepest → Good D l → n ≤ mostTurns → turn D l n o r o' → WritesListOf D (FromBlack D (Turned D n) l) o (r, o')
+  turn-told : D ≤ deepest → Good D l → n ≤ mostTurns → turn D l n o r o' → WritesListOf D (FromBlack (Turned D n) (black D l)) o (r, o')
   turn-told h g k (inl (a, t, _)) = absurd (not-deep D h a t)
   turn-told h g k (inr (_, inl (a, t, _))) = absurd (good-passes D l 1 g a t)
   turn-told h g k (inr (_, inr (_, inl (a, t, _)))) = absurd (passes (deep-enough k) a t)
@@ -51,7 +51,7 @@ module _ (D : ℕ) (l : List ℕ) (n : ℕ) (o o' : List ℕ) (r : Answer) where
   turn-moved : turn D l n o r o' → Succeeds r → Moved D l (Turned D n) o o' r
   turn-moved t z =
       let k = turn-success D l n o r o' t z in
-      record { depth = k .shallow; good = k .good; accepted = every-turned D l n (k .good); gives = success-gives D (FromBlack D (Turned D n) l) o o' r (k .result) }
+      record { depth = k .shallow; good = k .good; accepted = every-turned D l n (k .good); gives = success-gives D (FromBlack (Turned D n) (black D l)) o o' r (k .result) }
 
 -- by each turn number up to 3
 pub turn-carries : Carries turn Turned (λ n. n ≤ mostTurns)
@@ -73,7 +73,7 @@ turn-keeps-volume = carrier-keeps-volume turn-carries
 pub keeps-leaves : KeepsLeaves turn
 keeps-leaves D l n h g k o o' r t = go (turn-told D l n o o' r h g k t)
   where
-    go : WritesListOf D (FromBlack D (Turned D n) l) o (r, o') → ((length l ≤ length o) × (r ≡ given (length l))) ⊎ ((length o < length l) × (r ≡ answer 8 (length l) 0))
+    go : WritesListOf D (FromBlack (Turned D n) (black D l)) o (r, o') → ((length l ≤ length o) × (r ≡ given (length l))) ⊎ ((length o < length l) × (r ≡ answer 8 (length l) 0))
     go (m, x, inl (a, (short, e), f)) =
         let same = turned-length D l n g m x in
         inr (omega arith, ap (λ (s : Answer × List ℕ). s .0) f ∙ e ∙ ap (λ (i : ℕ). answer 8 i 0) same)
@@ -175,7 +175,7 @@ turns-moves D l d o o' r turned z p p' s second q q' t first =
       (λ n. absurd (told-accepted D _ q q' t b n), λ n. absurd (told-accepted D _ p p' s a n)),
       λ z' g g' u last roomy roomy'.
           let m = move-carries .moved D l d q q' t first z' in
-          let same : (w : ℕ) → FromBlack D (Turned D 1) (wrote t q') w ↔ FromBlack D (by-turned-move D d) (wrote r o') w =
+          let same : (w : ℕ) → FromBlack (Turned D 1) (black D (wrote t q')) w ↔ FromBlack (by-turned-move D d) (black D (wrote r o')) w =
           λ w.
           let x = carried-then (move-then-turn D d) l (wrote t q') (m .accepted) (m .gives .list) w in
           let y = carried-then (turn-then-move D d) l (wrote r o') (f .accepted) (f .gives .list) w in

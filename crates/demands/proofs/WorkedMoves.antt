@@ -79,13 +79,13 @@ movesWell (TakenV.Voxels i j k) D l n r w = shiftsWell D l (axes i j k) (stay D 
 
 -- the tests of the move and then the shift
 abbrev Past : ℕ → List ℕ → Move → List ℕ → Left → Type 0
-Past D l m o = Decided (keeping o) (moveTests m) (ByVoxels D l m o)
+Past D l m o = Decided (keeping o) (moveTests m) (ByVoxels m (λ d. ShiftOf D l d o))
 
 metres-fit : (D : ℕ) (l : List ℕ) (d : Metres) (o : List ℕ) (r : Answer) (w : List ℕ) → Good D l → (t : Taken) → TakenOf d t → movesWell t D l (length o) r w ≡ true
     → Past D l (MoveV.Metres d) o (leaving o (r, w))
-metres-fit D l d o r w g (TakenV.Bad p) x e = subst (λ (t : Left). Past D l (MoveV.Metres d) o (leaving o t)) (agrees-is (answer 5 p 0, []) r w e) (bad-decides (keeping o) (ByVoxels D l (MoveV.Metres d) o) d p x)
+metres-fit D l d o r w g (TakenV.Bad p) x e = subst (λ (t : Left). Past D l (MoveV.Metres d) o (leaving o t)) (agrees-is (answer 5 p 0, []) r w e) (bad-decides (keeping o) (ByVoxels (MoveV.Metres d) (λ x. ShiftOf D l x o)) d p x)
 metres-fit D l d o r w g (TakenV.Voxels i j k) x e =
-    whole-decides (keeping o) (ByVoxels D l (MoveV.Metres d) o) d i j k (leaving o (r, w)) x (λ b. (i, j, k, b, shifts-fits D l (axes i j k) g o r w (stay D l (axes i j k) (length l)) refl e))
+    whole-decides (keeping o) (ByVoxels (MoveV.Metres d) (λ x. ShiftOf D l x o)) d i j k (leaving o (r, w)) x (λ b. (i, j, k, b, shifts-fits D l (axes i j k) g o r w (stay D l (axes i j k) (length l)) refl e))
 
 past-fits : (D : ℕ) (l : List ℕ) (m : Move) (o : List ℕ) (r : Answer) (w : List ℕ) → Good D l → movesWell (inVoxels m) D l (length o) r w ≡ true → Past D l m o (leaving o (r, w))
 past-fits D l (MoveV.Voxels i j k) o r w g e = (i, j, k, each-axis _ refl refl refl, shifts-fits D l (axes i j k) g o r w (stay D l (axes i j k) (length l)) refl e)

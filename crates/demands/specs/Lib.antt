@@ -4,6 +4,8 @@ pub mod Laws
 pub mod OverAndBack
 -- quarter turns: ticket 4
 pub mod Turns
+-- both engines: ticket 5
+pub mod Engines
 -- calls that are none of the library's
 pub mod Impostors
 -- the examples of document 01

@@ -3,6 +3,7 @@ mod on_blocks;
 mod on_df;
 mod on_moves;
 
+use picturing::inner::on_bits;
 use printing::inner::on_cells;
 use printing::inner::on_records;
 use printing::inner::on_sets;
@@ -19,4 +20,5 @@ fn main() {
     on_text::run();
     on_df::run();
     on_turns::run();
+    on_bits::run();
 }

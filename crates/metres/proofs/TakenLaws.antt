@@ -1,5 +1,6 @@
 -- The laws of `TakenOf`, what a move in metres becomes.
 --     together-taken     three coordinates' outcomes, put together, are the move's
+--     one-move-tests, move-tests-five, move-tests-numbered     each test of a move refuses with one answer at most, whose number is 5
 --     one-becomes, one-taken     no second outcome fits a move
 --     bad-decides, whole-decides     how the outcome decides the same tests in a call above
 -- Assumes nothing.
@@ -13,7 +14,7 @@ use lib.IntN.{ℤ}
 use Rattle.cells.specs.Answer.{answer, Test, Decided}
 use Rattle.cells.specs.declared.Answer.{Answer}
 use Rattle.cells.specs.Place.{axes, EachAxis}
-use Rattle.cells.proofs.Decisions.{One, one-decided, one-refuses, one-refuses-first, passes}
+use Rattle.cells.proofs.Decisions.{One, Ones, Telling, Numbered, one-decided, one-refuses, one-refuses-first, passes, refuses-numbered, refuses-first-numbered}
 use Rattle.cells.proofs.Places.{each-axis}
 use Rattle.metres.specs.declared.Metres.{Metres}
 use Rattle.metres.specs.declared.Move.{Move}
@@ -47,6 +48,20 @@ module _ (m : Metres) (low : m .s ≤ finest) where
       let all : EachAxis (λ a. Whole (m .s) (coordinates m a) (axes i j k a)) = each-axis _ x y z in
       inr (passes (λ h. omega arith), inr (λ a (b, f, e). f .here (axes i j k b) (all b (f .below)), (i, j, k, all, refl)))
 
+-- ---- a move's own tests
+
+pub one-move-tests : (m : Move) → Ones (moveTests m)
+one-move-tests (MoveV.Voxels i j k) = tt
+one-move-tests (MoveV.Metres d) = (one-refuses, (one-refuses-first, tt))
+
+pub move-tests-five : (m : Move) → Telling (λ a. a .number ≡ 5) (moveTests m)
+move-tests-five (MoveV.Voxels i j k) = tt
+move-tests-five (MoveV.Metres d) = (λ a (_, e). ap (λ (t : Answer). t .number) e, (λ a (_, _, e). ap (λ (t : Answer). t .number) e, tt))
+
+pub move-tests-numbered : (m : Move) → Numbered (moveTests m)
+move-tests-numbered (MoveV.Voxels i j k) = tt
+move-tests-numbered (MoveV.Metres d) = (refuses-numbered (λ x. omega arith), (refuses-first-numbered (λ i x e. omega arith), tt))
+
 -- ---- no second outcome
 
 pub one-becomes : (m : Move) (d e : ℕ → ℤ) → Becomes m d → Becomes m e → EachAxis (λ a. d a ≡ e a)
@@ -62,7 +77,7 @@ one-row m r s (i, j, k, b, e) (i', j', k', b', e') =
     e ∙ rw (same 0 (omega arith), same 1 (omega arith), same 2 (omega arith)) (sym e')
 
 one-outcome : (d : Metres) → One (Decided inl (moveTests (MoveV.Metres d)) (Voxelled (MoveV.Metres d)))
-one-outcome d = one-decided inl (moveTests (MoveV.Metres d)) (Voxelled (MoveV.Metres d)) (one-refuses, (one-refuses-first, tt)) (one-row (MoveV.Metres d))
+one-outcome d = one-decided inl (moveTests (MoveV.Metres d)) (Voxelled (MoveV.Metres d)) (one-move-tests (MoveV.Metres d)) (one-row (MoveV.Metres d))
 
 same-three : (i j k i' j' k' : ℤ) → _≡_ {A = Answer ⊎ (ℤ × ℤ × ℤ)} (inr (i, j, k)) (inr (i', j', k')) → (i ≡ i') × (j ≡ j') × (k ≡ k')
 same-three i j k i' j' k' e =

@@ -53,7 +53,7 @@ splits-of d a h = go (d a)
 -- ---- one axis
 
 -- where the places from x on stay, s of them, the place w does
-keeps-place : (side x s : ℕ) (d : ℤ) (p : Parted) → Splits d p → keeps side x s p ≡ true → (w : ℕ) → x ≤ w → w < x + s
+pub keeps-place : (side x s : ℕ) (d : ℤ) (p : Parted) → Splits d p → keeps side x s p ≡ true → (w : ℕ) → x ≤ w → w < x + s
     → (w + p .up - p .down < side) × Displaced d w (w + p .up - p .down)
 keeps-place side x s d p P e w lo hi =
     let (a, b) = both-true (leb (p .down) (x + p .up)) (leb (x + s + p .up) (side + p .down)) e in
@@ -63,7 +63,7 @@ keeps-place side x s d p P e w lo hi =
     (omega arith, displaced-parts d w (w + p .up - p .down) .1 (omega arith))
 
 -- where they do not, the first strays or the last
-loses-place : (side x s : ℕ) (d : ℤ) (p : Parted) → Splits d p → keeps side x s p ≡ false
+pub loses-place : (side x s : ℕ) (d : ℤ) (p : Parted) → Splits d p → keeps side x s p ≡ false
     → ((w : ℕ) → w < side → Displaced d x w → ⊥) ⊎ ((w v : ℕ) → w < side → v + 1 ≡ x + s → Displaced d v w → ⊥)
 loses-place side x s d p P e =
     let q = splits-above d p P in

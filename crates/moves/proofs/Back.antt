@@ -58,20 +58,20 @@ module _ (D : ℕ) (d : ℕ → ℤ) (q : ℕ → Parted) (split : EachAxis (λ 
       (λ a l. let c = side-by-side u v v came a l in congruent-equal (2 ^ D) _ _ (along-lt (2 ^ a) D (shift D w 0 v)) (along-lt (2 ^ a) D u) (record { j = c .k; k = c .j; same = omega (arith, c .same) }))
 
   -- ---- the list shifted back has the displaced voxels
-  pub shifted-exactly : (l : List ℕ) → Ordered D 0 l → Accepted D (Came D d) l → (v : ℕ) → v < 8 ^ D → (shifted D l w v ≡ true) ↔ FromBlack D (Came D d) l v
+  pub shifted-exactly : (l : List ℕ) → Ordered D 0 l → Accepted D (Came D d) l → (v : ℕ) → v < 8 ^ D → (shifted D l w v ≡ true) ↔ FromBlack (Came D d) (black D l) v
   shifted-exactly l o ok v h = (to, back-again)
     where
-      to : shifted D l w v ≡ true → FromBlack D (Came D d) l v
+      to : shifted D l w v ≡ true → FromBlack (Came D d) (black D l) v
       to e =
           let b : black D l (shift D w 0 v) ≡ true = sym (shifted-in D l w v h) ∙ e in
           let (t, came) = ok (shift D w 0 v) b in
           (shift D w 0 v, b, subst (Came D d (shift D w 0 v)) (source-came v t h came) came)
 
-      back-again : FromBlack D (Came D d) l v → shifted D l w v ≡ true
+      back-again : FromBlack (Came D d) (black D l) v → shifted D l w v ≡ true
       back-again (u, b, came) = shifted-in D l w v h ∙ ap (black D l) (came-source v u (black-in-root D 0 l o u b) came) ∙ b
 
 -- ---- a voxel whose source lies outside the root is white in the result
 
-pub outside-white : (D : ℕ) (d : ℕ → ℤ) (l m : List ℕ) → Ordered D 0 l → ListOf D (FromBlack D (Came D d) l) m → (v : ℕ) → v < 8 ^ D
+pub outside-white : (D : ℕ) (d : ℕ → ℤ) (l m : List ℕ) → Ordered D 0 l → ListOf D (FromBlack (Came D d) (black D l)) m → (v : ℕ) → v < 8 ^ D
     → ((u : ℕ) → u < 8 ^ D → Came D d u v → ⊥) → black D m v ≡ false
 outside-white D d l m o x v h none = refuted (black D m v) (λ e. let (u, b, came) = x .exactly v h .0 e in none u (black-in-root D 0 l o u b) came)

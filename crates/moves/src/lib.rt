@@ -45,7 +45,7 @@ fn move_whole(depth: u32, list: &[u32], dx: i32, dy: i32, dz: i32, out: &mut [u3
 // The same for a move in metres: 5 where it is no whole move.
 fn move_metres(depth: u32, list: &[u32], d: Metres, out: &mut [u32]) -> Answer
     requires { ⌜ (depth ≤ deepest) × Ordered depth 0 (now list) ⌝ }
-    ensures { λ r. ⌜ Decided (keeping (now (out .entry))) (moveTests (the-move.Metres d)) (ByVoxels depth (now (list .entry)) (the-move.Metres d) (now (out .entry))) (r, now (out .exit)) ⌝ }
+    ensures { λ r. ⌜ Decided (keeping (now (out .entry))) (moveTests (the-move.Metres d)) (ByVoxels (the-move.Metres d) (λ by. ShiftOf depth (now (list .entry)) by (now (out .entry)))) (r, now (out .exit)) ⌝ }
 {
     let taken = in_voxels(d);
     match taken {

@@ -47,9 +47,9 @@ pub record Then (D : ℕ) (R S T : ℕ → ℕ → Type 0) : Type 0 where
   pub rest : (u v w : ℕ) → T u w → R u v → S v w
 
 -- of a list l, and the list m of its voxels carried by R
-module _ {D : ℕ} {R S T : ℕ → ℕ → Type 0} (k : Then D R S T) (l m : List ℕ) (first : Accepted D R l) (x : ListOf D (FromBlack D R l) m) where
+module _ {D : ℕ} {R S T : ℕ → ℕ → Type 0} (k : Then D R S T) (l m : List ℕ) (first : Accepted D R l) (x : ListOf D (FromBlack R (black D l)) m) where
   -- where a black voxel of m came from
-  came-from : (v : ℕ) → black D m v ≡ true → FromBlack D R l v
+  came-from : (v : ℕ) → black D m v ≡ true → FromBlack R (black D l) v
   came-from v b = x .exactly v (black-in-root D 0 m (x .good .ordered) v b) .0 b
 
   pub accepted-then : Accepted D S m ↔ Accepted D T l
@@ -64,7 +64,7 @@ module _ {D : ℕ} {R S T : ℕ → ℕ → Type 0} (k : Then D R S T) (l m : Li
         (w, k .rest u v w s c),
   )
 
-  pub carried-then : (w : ℕ) → FromBlack D S m w ↔ FromBlack D T l w
+  pub carried-then : (w : ℕ) → FromBlack S (black D m) w ↔ FromBlack T (black D l) w
   carried-then w = (
     λ (v, b, f).
         let (u, a, c) = came-from v b in
@@ -78,7 +78,7 @@ module _ {D : ℕ} {R S T : ℕ → ℕ → Type 0} (k : Then D R S T) (l m : Li
 
 module _ (D : ℕ) (R : ℕ → ℕ → Type 0) (carrying : Carrying D R) where
   -- a voxel of the carried list m has the colour that the voxel it came from has in l
-  pub colour-carried : (l m : List ℕ) → Good D l → ListOf D (FromBlack D R l) m → (u v : ℕ) → u < 8 ^ D → R u v → black D m v ≡ black D l u
+  pub colour-carried : (l m : List ℕ) → Good D l → ListOf D (FromBlack R (black D l)) m → (u v : ℕ) → u < 8 ^ D → R u v → black D m v ≡ black D l u
   colour-carried l m g x u v h r = same-truth (black D m v) (black D l u) (from, λ b. x .exactly v (carrying .root u v r) .1 (u, b, r))
     where
       from : black D m v ≡ true → black D l u ≡ true
@@ -88,7 +88,7 @@ module _ (D : ℕ) (R : ℕ → ℕ → Type 0) (carrying : Carrying D R) where
 
   -- ---- the volume
 
-  module _ (l m : List ℕ) (good : Good D l) (ok : Accepted D R l) (x : ListOf D (FromBlack D R l) m) where
+  module _ (l m : List ℕ) (good : Good D l) (ok : Accepted D R l) (x : ListOf D (FromBlack R (black D l)) m) where
     in-l : (u : ℕ) → black D l u ≡ true → u < 8 ^ D
     in-l = black-in-root D 0 l (good .ordered)
 
@@ -132,7 +132,7 @@ module _ (D : ℕ) (R : ℕ → ℕ → Type 0) (carrying : Carrying D R) where
   -- ---- lists a and b, their carried lists, and the list c of the voxels that the operation T takes: only voxels of one of the two
 
   module _ (T : Type 0 → Type 0 → Type 0) (one-of : (A B : Type 0) → T A B → A ⊎ B) (a b c a' b' : List ℕ) (ga : Good D a) (gb : Good D b)
-      (x : ListOf D (FromBlack D R a) a') (y : ListOf D (FromBlack D R b) b') (z : ListOf D (λ v. T (black D a v ≡ true) (black D b v ≡ true)) c) where
+      (x : ListOf D (FromBlack R (black D a)) a') (y : ListOf D (FromBlack R (black D b)) b') (z : ListOf D (λ v. T (black D a v ≡ true) (black D b v ≡ true)) c) where
     pub accepted-made : Accepted D R a → Accepted D R b → Accepted D R c
     accepted-made ok ok' u e = ⊎-elim (ok u) (ok' u) (one-of _ _ (z .exactly u (black-in-root D 0 c (z .good .ordered) u e) .0 e))
 
@@ -144,18 +144,18 @@ module _ (D : ℕ) (R : ℕ → ℕ → Type 0) (carrying : Carrying D R) where
         let F : Bool → Bool → Type 0 = λ s t. T (s ≡ true) (t ≡ true) in
         (subst₂ F p q, subst₂ F (sym p) (sym q))
 
-    pub made-carried : (v : ℕ) → v < 8 ^ D → T (black D a' v ≡ true) (black D b' v ≡ true) ↔ FromBlack D R c v
+    pub made-carried : (v : ℕ) → v < 8 ^ D → T (black D a' v ≡ true) (black D b' v ≡ true) ↔ FromBlack R (black D c) v
     made-carried v h = (to, back)
       where
-        come : T (black D a' v ≡ true) (black D b' v ≡ true) → (u : ℕ) → u < 8 ^ D → R u v → FromBlack D R c v
+        come : T (black D a' v ≡ true) (black D b' v ≡ true) → (u : ℕ) → u < 8 ^ D → R u v → FromBlack R (black D c) v
         come t u k r = (u, z .exactly u k .1 (taken-carried u v k r .0 t), r)
 
-        to : T (black D a' v ≡ true) (black D b' v ≡ true) → FromBlack D R c v
+        to : T (black D a' v ≡ true) (black D b' v ≡ true) → FromBlack R (black D c) v
         to t =
             ⊎-elim
             (λ (e : black D a' v ≡ true). let (u, s, r) = x .exactly v h .0 e in come t u (black-in-root D 0 a (ga .ordered) u s) r)
             (λ (e : black D b' v ≡ true). let (u, s, r) = y .exactly v h .0 e in come t u (black-in-root D 0 b (gb .ordered) u s) r)
             (one-of _ _ t)
 
-        back : FromBlack D R c v → T (black D a' v ≡ true) (black D b' v ≡ true)
+        back : FromBlack R (black D c) v → T (black D a' v ≡ true) (black D b' v ≡ true)
         back (u, s, r) = let k = black-in-root D 0 c (z .good .ordered) u s in taken-carried u v k r .1 (z .exactly u k .0 s)

@@ -1,19 +1,17 @@
 // What is told of a whole list, and of one voxel: `check`, `volume`, `lookup`.
 use crate::inner::first_from;
+use crate::inner::in_root;
 use crate::inner::judge;
 use crate::inner::judged;
 use crate::inner::last_reaches;
 use cells::Answer;
 use cells::DEEPEST;
 use cells::inner::number_of;
-use cells::inner::pow2;
 use cells::inner::refusal;
 use cells::inner::success;
 ghost use mathlib.Core.Path.{_≡_};
 ghost use Prim.Native.Nat.{_≤_, _<_, _^_};
-ghost use lib.Dec.{ltb};
 ghost use Rattle.cells.specs.Answer.{deepest};
-ghost use Rattle.cells.specs.Place.{axes, allAxes};
 ghost use Rattle.records.specs.Record.{black, Ordered};
 ghost use Rattle.records.specs.Calls.{CheckOf, LookupOf, VolumeOf};
 
@@ -40,21 +38,6 @@ pub fn volume(depth: u32, list: &[u32]) -> Answer
         return refusal(number, walk.passed, 1);
     }
     success(walk.sum as u64)
-}
-
-// Whether the voxel x, y, z lies in the root.
-fn in_root(depth: u32, x: u32, y: u32, z: u32) -> bool
-    requires { ⌜ depth ≤ deepest ⌝ }
-    ensures { λ r. ⌜ r ≡ allAxes (λ a. ltb (axes x y z a) (2 ^ depth)) ⌝ }
-{
-    let side = pow2(depth);
-    if side <= x {
-        return false;
-    }
-    if side <= y {
-        return false;
-    }
-    z < side
 }
 
 // Whether voxel v is black.

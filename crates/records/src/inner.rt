@@ -1,17 +1,20 @@
-// INNER: the walk that judges a list, and the search in a good one, for the crates above. A host must not call these.
+// INNER: the walk that judges a list, the search in a good one, and the test that a voxel lies in the root, for the crates above. A host must not call these.
 pub mod slots;
 
 use cells::Answer;
 use cells::inner::first;
 use cells::inner::is_proper;
+use cells::inner::pow2;
 use cells::inner::refusal;
 use cells::inner::success;
 use cells::inner::width;
 ghost use mathlib.Core.Path.{_≡_};
 ghost use mathlib.Core.List.{List};
-ghost use Prim.Native.Nat.{ℕ, suc, _+_, _%_, _≤_};
+ghost use Prim.Native.Nat.{ℕ, suc, _+_, _%_, _^_, _≤_};
+ghost use lib.Dec.{ltb};
 ghost use lib.ListN.{length, getD};
 ghost use Rattle.cells.specs.Answer.{deepest};
+ghost use Rattle.cells.specs.Place.{axes, allAxes};
 ghost use Rattle.records.specs.Record.{Ordered};
 ghost use Rattle.records.specs.Inner.{Searchable, Starts, reaches};
 ghost use Rattle.records.specs.Walk.{nextRun, Faultless, Underway, Walked, JudgedOf};
@@ -168,4 +171,19 @@ pub fn last_reaches(depth: u32, l: &[u32], at: usize, v: u32) -> bool
     }
     let c = l[at - 1];
     v < first(depth, c) + width(depth, c)
+}
+
+// Whether the voxel x, y, z lies in the root.
+pub fn in_root(depth: u32, x: u32, y: u32, z: u32) -> bool
+    requires { ⌜ depth ≤ deepest ⌝ }
+    ensures { λ r. ⌜ r ≡ allAxes (λ a. ltb (axes x y z a) (2 ^ depth)) ⌝ }
+{
+    let side = pow2(depth);
+    if side <= x {
+        return false;
+    }
+    if side <= y {
+        return false;
+    }
+    z < side
 }

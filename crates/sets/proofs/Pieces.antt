@@ -25,7 +25,7 @@ chosen-none Intersect = refl
 chosen-none Subtract = refl
 
 -- the test of a voxel's colours says what the result takes
-chosen-exactly : (op : Op) (a b : Bool) → (chosen op a b ≡ true) ↔ Chosen op (a ≡ true) (b ≡ true)
+pub chosen-exactly : (op : Op) (a b : Bool) → (chosen op a b ≡ true) ↔ Chosen op (a ≡ true) (b ≡ true)
 chosen-exactly Join true b = (λ e. inl refl, λ t. refl)
 chosen-exactly Join false true = (λ e. inr refl, λ t. refl)
 chosen-exactly Join false false = (λ e. inl e, λ t. ⊎-elim (λ e. e) (λ e. e) t)

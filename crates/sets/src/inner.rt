@@ -32,7 +32,7 @@ pub struct Side {
     pub until: u32,
 }
 
-fn choose(op: Op, a: bool, b: bool) -> bool
+pub fn choose(op: Op, a: bool, b: bool) -> bool
     ensures { λ r. ⌜ r ≡ chosen op a b ⌝ }
 {
     match op {

@@ -27,7 +27,7 @@ pub record Computed (D : ℕ) (l : List ℕ) (n : ℕ) (m : List ℕ) : Type 0 w
   pub after : goodList D (turned D l n) ≡ m
 
 pub turn-computed : {D n : ℕ} {l m : List ℕ} → Computed D l n m → D ≤ deepest → n ≤ mostTurns → {o : List ℕ} {r : Answer} {o' : List ℕ} → WritesOf m o (r, o') → TurnOf D l n o r o'
-turn-computed {D} {n} {l} {m} c h k {o} {r} {o'} w = turn-of D l n o r o' h (c .good) k (m, subst (ListOf D (FromBlack D (Turned D n) l)) (c .after) (turned-list D l n), w)
+turn-computed {D} {n} {l} {m} c h k {o} {r} {o'} w = turn-of D l n o r o' h (c .good) k (m, subst (ListOf D (FromBlack (Turned D n) (black D l))) (c .after) (turned-list D l n), w)
 
 computed : (D : ℕ) (l : List ℕ) (n : ℕ) (m : List ℕ) → goodList D (black D l) ≡ l → goodList D (turned D l n) ≡ m → Computed D l n m
 computed D l n m good after = record { good = subst (Good D) good (is-good D (black D l)); after = after }

@@ -117,5 +117,5 @@ module _ (D : ℕ) where
 
   -- ---- the voxels of a list after n turns
 
-  pub turned-exactly : (l : List ℕ) (n v : ℕ) → v < 8 ^ D → (turned D l n v ≡ true) ↔ FromBlack D (Turned D n) l v
+  pub turned-exactly : (l : List ℕ) (n v : ℕ) → v < 8 ^ D → (turned D l n v ≡ true) ↔ FromBlack (Turned D n) (black D l) v
   turned-exactly l n v h = (λ b. (sourceOf n D v, b, turned-source n v h), λ (u, b, t). ap (black D l) (sym (turned-from n u v t .1)) ∙ b)

@@ -6,6 +6,7 @@ use Prim.Native.Nat.{ℕ, zero, suc, _+_, _^_, _<_}
 use Rattle.cells.specs.Answer.{answer, Test, Decided, keeping, refuses, deepest, TooDeep}
 use Rattle.cells.specs.Place.{along}
 use Rattle.cells.specs.declared.Answer.{Answer}
+use Rattle.records.specs.Record.{black}
 use Rattle.records.specs.Fault.{Faulty}
 use Rattle.records.specs.Carried.{FromBlack}
 use Rattle.records.specs.Writing.{WritesListOf}
@@ -33,4 +34,4 @@ NoTurn n = refuses (answer 6 1 0) (mostTurns < n)
 
 -- THE CALL turn_list, on the list l, the turn number n and the buffer o: the answer r and the buffer o' afterwards
 abbrev pub TurnOf : ℕ → List ℕ → ℕ → List ℕ → Answer → List ℕ → Type 0
-TurnOf D l n o r o' = Decided (keeping o) (TooDeep deepest D ∷ Faulty D l 1 ∷ NoTurn n ∷ []) (WritesListOf D (FromBlack D (Turned D n) l) o) (r, o')
+TurnOf D l n o r o' = Decided (keeping o) (TooDeep deepest D ∷ Faulty D l 1 ∷ NoTurn n ∷ []) (WritesListOf D (FromBlack (Turned D n) (black D l)) o) (r, o')

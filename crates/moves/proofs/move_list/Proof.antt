@@ -11,7 +11,6 @@ use Rattle.records.proofs.CallLaws.{Checked, checks}
 use Rattle.cells.proofs.Words.{signed-axes}
 use Rattle.metres.specs.Metres.{moveTests}
 use Rattle.metres.specs.declared.Move.{Move}
-use Rattle.metres.specs.declared.Move.the-variants as the-move
 use Rattle.moves.specs.Moves.{ShiftOf, ByVoxels, MoveOf}
 use Rattle.moves.proofs.move_list.Statement.{statement}
 use Rattle.moves.proofs.move_list.Tie as tie
@@ -28,12 +27,12 @@ module _ (c : tie.Else1) where
   pass : Checked (start .args .depth) (start .args .list .now) (c .before .check .result .place)
   pass = opening-known (checks (start .args .depth) (start .args .list .now)) (c .before .check .result) (c .before .check .ensures) none
 
-  next : (t : Answer × List ℕ) {m : Move} → start .args .m ≡ m → Decided (keeping (start .args .out .now)) (moveTests m) (ByVoxels (start .args .depth) (start .args .list .now) m (start .args .out .now)) t
+  next : (t : Answer × List ℕ) {m : Move} → start .args .m ≡ m → Decided (keeping (start .args .out .now)) (moveTests m) (ByVoxels m (λ x. ShiftOf (start .args .depth) (start .args .list .now) x (start .args .out .now))) t
       → MoveOf (start .args .depth) (start .args .list .now) (start .args .m) (start .args .out .now) (t .0) (t .1)
   next t {m} is d =
       let a = start .args in
       subst (λ (n : Move). MoveOf (a .depth) (a .list .now) n (a .out .now) (t .0) (t .1)) (sym is)
-      (opening-passes (checks (a .depth) (a .list .now)) (c .before .check .result) (c .before .check .ensures) (keeping (a .out .now)) (moveTests m) (ByVoxels (a .depth) (a .list .now) m (a .out .now)) t none d)
+      (opening-passes (checks (a .depth) (a .list .now)) (c .before .check .result) (c .before .check .ensures) (keeping (a .out .now)) (moveTests m) (ByVoxels m (λ x. ShiftOf (a .depth) (a .list .now) x (a .out .now))) t none d)
 
 -- ---- the needs
 
@@ -61,7 +60,7 @@ move-list-spec =
     (λ c.
     let at-check = c .before in
     let a = at-check .before .before .before .args in
-    opening-refuses (checks (a .depth) (a .list .now)) (at-check .check .result) (at-check .check .ensures) (keeping (a .out .now)) (moveTests (a .m)) (ByVoxels (a .depth) (a .list .now) (a .m) (a .out .now)) (c .if1 .taken))
+    opening-refuses (checks (a .depth) (a .list .now)) (at-check .check .result) (at-check .check .ensures) (keeping (a .out .now)) (moveTests (a .m)) (ByVoxels (a .m) (λ x. ShiftOf (a .depth) (a .list .now) x (a .out .now))) (c .if1 .taken))
     (λ c. search needs)
     (λ c κs. let k = pass (c .before .before .before .before) in (k .shallow, k .good .ordered))
     (λ c. search needs)

@@ -21,7 +21,7 @@ returns c =
     let at-in-voxels = at-taken .before .before in
     let a = at-in-voxels .before .before .before .args in
     let p = at-taken .taken .given .0 .0 in
-    let P : Answer × List ℕ → Type 0 = ByVoxels (a .depth) (a .list .now) (the-move.Metres (a .d)) (a .out .now) in
+    let P : Answer × List ℕ → Type 0 = ByVoxels (the-move.Metres (a .d)) (λ x. ShiftOf (a .depth) (a .list .now) x (a .out .now)) in
     let told : TakenOf (a .d) (Bad p) = subst (TakenOf (a .d)) (at-taken .taken .given .1) (at-in-voxels .in-voxels .ensures) in
     subst (λ (r : Answer). Decided (keeping (a .out .now)) (moveTests (the-move.Metres (a .d))) P (r, a .out .now)) (sym (c .refusal .ensures))
     (bad-decides (keeping (a .out .now)) P (a .d) p told)
@@ -36,7 +36,7 @@ returns-2 c =
     let g = at-taken2 .taken2 .given .0 in
     let told : TakenOf (a .d) (Voxels (g .0) (g .1 .0) (g .1 .1 .0)) = subst (TakenOf (a .d)) (at-taken2 .taken2 .given .1) (at-in-voxels .in-voxels .ensures) in
     let left : Answer × List ℕ = (w .result, w .last .1 .1 .1 .1 .1 .0) in
-    let P : Answer × List ℕ → Type 0 = ByVoxels (a .depth) (a .list .now) (the-move.Metres (a .d)) (a .out .now) in
+    let P : Answer × List ℕ → Type 0 = ByVoxels (the-move.Metres (a .d)) (λ x. ShiftOf (a .depth) (a .list .now) x (a .out .now)) in
     whole-decides (keeping (a .out .now)) P (a .d) (g .0) (g .1 .0) (g .1 .1 .0) left told
     (λ becomes. (
       _,

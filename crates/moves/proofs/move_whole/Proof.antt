@@ -13,6 +13,7 @@ use Rattle.cells.specs.Place.{axes, EachAxis, Came}
 use Rattle.cells.specs.declared.Answer.{Answer}
 use Rattle.cells.proofs.Firsts.{stops-first, stops-never}
 use Rattle.cells.proofs.Places.{each-axis}
+use Rattle.records.specs.Record.{black}
 use Rattle.records.specs.Carried.{FromBlack}
 use Rattle.records.proofs.Carrying.{Accepted, accepted-passes}
 use Rattle.records.specs.Writing.{WritesListOf}
@@ -62,13 +63,13 @@ module _ (e : tie.Else1) where
 
   -- the shift back gives the displaced voxels
   voxels : (w : ℕ) → w ≡ back (at-start .args .depth) (p (e .before))
-      → (v : ℕ) → v < 8 ^ at-start .args .depth → (shifted (at-start .args .depth) (at-start .args .list .now) w v ≡ true) ↔ FromBlack (at-start .args .depth) R (at-start .args .list .now) v
+      → (v : ℕ) → v < 8 ^ at-start .args .depth → (shifted (at-start .args .depth) (at-start .args .list .now) w v ≡ true) ↔ FromBlack R (black (at-start .args .depth) (at-start .args .list .now)) v
   voxels w is v h =
       let a = at-start .args in
       rw is (shifted-exactly (a .depth) (d (e .before)) (p (e .before)) (split (e .before)) (a .list .now) (at-start .pre .1) accepted v h)
 
   -- past the test, the room decides
-  next : {t : Answer × List ℕ} → WritesListOf (at-start .args .depth) (FromBlack (at-start .args .depth) R (at-start .args .list .now)) (at-start .args .out .now) t
+  next : {t : Answer × List ℕ} → WritesListOf (at-start .args .depth) (FromBlack R (black (at-start .args .depth) (at-start .args .list .now))) (at-start .args .out .now) t
       → ShiftOf (at-start .args .depth) (at-start .args .list .now) (d (e .before)) (at-start .args .out .now) t
   next told = inr (accepted-passes (at-start .args .depth) R (at-start .args .list .now) accepted, told)
 

@@ -8,6 +8,7 @@ use borrow.Author.Needs.{needs}
 use Rattle.cells.specs.Answer.{Decided, keeping}
 use Rattle.cells.specs.declared.Answer.{Answer}
 use Rattle.cells.proofs.Decisions.{passes, deep-enough, opening-refuses, opening-passes, opening-known}
+use Rattle.records.specs.Record.{black}
 use Rattle.records.specs.Carried.{FromBlack}
 use Rattle.records.specs.Writing.{WritesListOf}
 use Rattle.records.proofs.CallLaws.{Checked, checks}
@@ -36,7 +37,7 @@ module _ (c : tie.After-check) where
 
   -- what success says
   abbrev Told : Answer × List ℕ → Type 0
-  Told = WritesListOf D (FromBlack D (Turned D n) l) o
+  Told = WritesListOf D (FromBlack (Turned D n) (black D l)) o
 
 -- ---- a good list
 

@@ -1,4 +1,4 @@
--- `records::checks::in_root` meets its contract. Assumes nothing.
+-- `records::inner::in_root` meets its contract. Assumes nothing.
 use mathlib.Core.Path.{sym, ap}
 use mathlib.Core.Bool.{and-false}
 use Prim.Native.Nat.{_^_}
@@ -6,8 +6,8 @@ use native.Mathlib.Omega.{arith}
 use lib.Dec.{ltb}
 use borrow.Author.Needs.{needs}
 use borrow.Author.Tests.{lt-ltb, le-ltb}
-use Rattle.records.proofs.checks.in_root.Statement.{statement}
-use Rattle.records.proofs.checks.in_root.Tie as tie
+use Rattle.records.proofs.inner.in_root.Statement.{statement}
+use Rattle.records.proofs.inner.in_root.Tie as tie
 
 returns : tie.Need-returns
 returns c =

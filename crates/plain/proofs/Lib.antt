@@ -1,0 +1,10 @@
+-- binary digits; a bit buffer
+pub mod Digits
+pub mod BitLaws
+-- a cursor in a list
+pub mod Cursor
+-- voxels displaced, and their colours
+pub mod Voxels
+-- the calls
+pub mod PlainLaws
+pub mod Instances
