@@ -32,6 +32,7 @@ pub struct Side {
     pub until: u32,
 }
 
+// Whether a result has a voxel, from its colours in the two sets: asked by the sweep, and voxel by voxel of bits.
 pub fn choose(op: Op, a: bool, b: bool) -> bool
     ensures { λ r. ⌜ r ≡ chosen op a b ⌝ }
 {
@@ -42,6 +43,7 @@ pub fn choose(op: Op, a: bool, b: bool) -> bool
     }
 }
 
+// The lesser and the greater of two voxel numbers.
 fn least(a: u32, b: u32) -> u32
     ensures { λ r. ⌜ r ≡ min a b ⌝ }
 {
