@@ -25,7 +25,7 @@ use Rattle.records.specs.Writing.{stands}
 use Rattle.records.proofs.Fill.{all-true, upto, leaves, goodList, is-good}
 use Rattle.records.proofs.First.{good-passes}
 use Rattle.records.proofs.OneList.{good-list}
-use Rattle.records.proofs.Writing.{writes-fitting}
+use Rattle.records.proofs.Writing.{writes-fitting, too-short}
 use Rattle.sets.specs.Inner.{chosen}
 use Rattle.sets.specs.declared.Op.{Op}
 use Rattle.sets.specs.declared.Op.the-variants.{Join, Intersect, Subtract}
@@ -133,6 +133,22 @@ pub to-list-spare : ToListOf 0 (254 ∷ []) (7 ∷ []) (given 0) (7 ∷ [])
 unfolding level index span start holds black allFrom upto leaves goodList bytesFor bitAt blackIn
 to-list-spare = listed 0 (254 ∷ []) [] (7 ∷ []) (omega arith) (omega arith) refl (omega arith)
 
+-- no place for a leaf: 8, with the leaves needed; no bits: 8, with the byte needed
+pub to-list-crowded : ToListOf 1 (9 ∷ []) [] (answer 8 2 0) []
+unfolding level index span start holds black allFrom upto leaves goodList bytesFor bitAt blackIn
+to-list-crowded =
+    inr (
+      passes (deep-enough (omega arith)),
+      inr (
+        passes (λ short. omega arith),
+        (8 ∷ 11 ∷ [], subst (ListOf 1 (λ v. blackIn 1 (9 ∷ []) v ≡ true)) {y = 8 ∷ 11 ∷ []} refl (good-list 1 (blackIn 1 (9 ∷ []))), too-short (8 ∷ 11 ∷ []) [] 2 refl _ _ (omega arith) refl refl),
+      ),
+    )
+
+pub to-list-short : (o : List ℕ) → ToListOf 1 [] o (answer 8 1 0) o
+unfolding bytesFor
+to-list-short o = inr (passes (deep-enough (omega arith)), inl (answer 8 1 0, (omega arith, refl), refl))
+
 -- not the root, which a spare bit would give
 pub to-list-fails : ToListOf 0 (254 ∷ []) (7 ∷ []) (given 1) (1 ∷ []) → ⊥
 to-list-fails h = let e : _≡_ {A = ℕ} 1 0 = ap (λ (t : Answer × List ℕ). t .0 .place) (one-to-list 0 (254 ∷ []) (7 ∷ []) _ _ h to-list-spare) in omega arith
@@ -174,6 +190,11 @@ intersect-bits-fails h = let e : _≡_ {A = ℕ} 3 1 = ap frontByte (one-set-bit
 
 pub subtract-bits-fails : SetBitsOf Subtract 1 (9 ∷ []) (3 ∷ []) (0 ∷ 7 ∷ []) (given 1) (2 ∷ 7 ∷ []) → ⊥
 subtract-bits-fails h = let e : _≡_ {A = ℕ} 2 8 = ap frontByte (one-set-bits Subtract 1 (9 ∷ []) (3 ∷ []) (0 ∷ 7 ∷ []) _ _ h subtract-bits-holds) in omega arith
+
+-- no bits: 8, with the byte needed
+pub set-bits-short : (op : Op) (b o : List ℕ) → SetBitsOf op 1 [] b o (answer 8 1 0) o
+unfolding bytesFor
+set-bits-short op b o = inr (passes (deep-enough (omega arith)), inl (answer 8 1 0, (omega arith, refl), refl))
 
 -- ---- moves at depth 1: r0 by one along x is r1; of r1 and r2, r1 leaves
 
@@ -235,6 +256,12 @@ move-bits-strays c o =
         inr (passes (λ short. omega arith), inr (passes (λ short. omega arith), inl (answer 7 1 1, (1, record { below = omega arith; here = leaves-r1; before = white-r0 }, refl), refl))),
       ),
     )
+
+-- no bits: 8 before 7
+pub move-bits-short : (o : List ℕ) → MoveBitsOf 1 [] (Voxels (pos 1) (pos 0) (pos 0)) o (answer 8 1 0) o
+unfolding bytesFor
+move-bits-short o =
+    inr (passes (deep-enough (omega arith)), (pos 1, pos 0, pos 0, each-axis _ refl refl refl, inl (answer 8 1 0, (omega arith, refl), refl)))
 
 -- ---- lookups in the byte 9: the voxel (1, 1, 0) is the number 3
 
