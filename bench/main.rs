@@ -1,6 +1,7 @@
 //! Each public job against a plain Rust program that does the same, on the same inputs, in one run: medians in microseconds, and their ratio.
 //!
 //!     bench            the table
+//!     bench lookups    its rows of lookups alone
 //!     bench bits       its rows of the plain engine alone
 //!     bench visited    target cells visited per output leaf, for each shape and move
 mod bits;
@@ -8,8 +9,8 @@ mod ours;
 mod plain;
 mod shapes;
 
-use plain::{Answer, Op};
-use shapes::{Step, BITS_DEPTH, DEPTH, LEAVES};
+use plain::{Answer, Finding, Op};
+use shapes::{Shape, Step, BITS_DEPTH, DEPTH, LEAVES};
 use std::time::Instant;
 
 const MOVES: [[i32; 3]; 4] = [[1, 0, 0], [1, 1, 1], [2, 2, 2], [256, 0, 0]];
@@ -48,6 +49,28 @@ fn all_neighbours(cells: &[Step], one: impl Fn(u32, u32, [i32; 3]) -> Answer) ->
         sum.place += r.place;
     }
     sum
+}
+
+/// The lookups of all voxels: how many are refused, how many are black, and the sum of the levels.
+fn all_lookups(list: &[u32], voxels: &[[u32; 3]], one: impl Fn(u32, &[u32], [u32; 3]) -> Finding) -> Answer {
+    let mut sum = Answer { number: 0, place: 0, list: 0 };
+    for at in voxels {
+        let r = one(DEPTH, list, *at);
+        sum.number += (r.answer.number != 0) as u32;
+        sum.place += r.answer.place;
+        sum.list += r.level;
+    }
+    sum
+}
+
+/// Ten thousand lookups in a shape's list, each of which judges the whole list.
+fn lookups(s: &Shape) {
+    let (list, voxels) = (&s.first, shapes::sought(&s.first));
+    let found: Vec<Finding> = voxels.iter().map(|at| ours::lookup(DEPTH, list, *at)).collect();
+    assert!(voxels.iter().zip(&found).all(|(at, f)| plain::lookup(DEPTH, list, *at) == *f), "{} looked up", s.name);
+    let black = found.iter().filter(|f| f.answer.place == 1).count();
+    assert!(0 < black && black < found.len(), "{}: voxels of both colours", s.name);
+    row(s.name, "ten thousand lookups", 5, || all_lookups(list, &voxels, ours::lookup), || all_lookups(list, &voxels, plain::lookup));
 }
 
 fn head() {
@@ -90,6 +113,7 @@ fn table() {
     for s in shapes::all() {
         row(s.name, "check", 301, || ours::check(DEPTH, &s.first), || plain::check(DEPTH, &s.first));
         row(s.name, "volume", 301, || ours::volume(DEPTH, &s.first), || plain::volume(DEPTH, &s.first));
+        lookups(&s);
         for (name, op) in [("join", Op::Join), ("intersection", Op::Meet), ("difference", Op::Less)] {
             row(s.name, name, 101, || ours::set(op, DEPTH, &s.first, &s.second, &mut room), || plain::set(op, DEPTH, &s.first, &s.second, &mut other));
         }
@@ -126,11 +150,15 @@ fn visited() {
 fn main() {
     match std::env::args().nth(1).as_deref() {
         None => table(),
+        Some("lookups") => {
+            head();
+            shapes::all().iter().for_each(lookups);
+        }
         Some("bits") => {
             head();
             on_bits();
         }
         Some("visited") => visited(),
-        Some(_) => println!("bench [bits | visited]"),
+        Some(_) => println!("bench [lookups | bits | visited]"),
     }
 }

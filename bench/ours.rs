@@ -1,10 +1,11 @@
 //! The proved calls, through the archive.
-use crate::plain::{Answer, Op};
+use crate::plain::{Answer, Finding, Op};
 
 #[link(name = "probe", kind = "static")]
 extern "C" {
     fn probe_check(depth: u32, list: *const u32, list_len: usize, answer: *mut u64, len: usize);
     fn probe_volume(depth: u32, list: *const u32, list_len: usize, answer: *mut u64, len: usize);
+    fn probe_lookup(depth: u32, list: *const u32, list_len: usize, x: u32, y: u32, z: u32, answer: *mut u64, len: usize);
     fn probe_join(depth: u32, a: *const u32, a_len: usize, b: *const u32, b_len: usize, out: *mut u32, room: usize, answer: *mut u64, len: usize);
     fn probe_meet(depth: u32, a: *const u32, a_len: usize, b: *const u32, b_len: usize, out: *mut u32, room: usize, answer: *mut u64, len: usize);
     fn probe_less(depth: u32, a: *const u32, a_len: usize, b: *const u32, b_len: usize, out: *mut u32, room: usize, answer: *mut u64, len: usize);
@@ -27,11 +28,15 @@ extern "C" {
     fn cab_neighbour(depth: u32, code: u32, dx: i32, dy: i32, dz: i32) -> u64;
 }
 
-/// Number, place and list out of the answer's words.
-fn told(call: impl FnOnce(*mut u64, usize)) -> Answer {
+/// Number, place and list out of the answer's words, and the level, which a lookup has there.
+fn found(call: impl FnOnce(*mut u64, usize)) -> Finding {
     let mut words = [0u64; 8];
     call(words.as_mut_ptr(), words.len());
-    Answer { number: words[0] as u32, place: words[1], list: words[2] as u32 }
+    Finding { answer: Answer { number: words[0] as u32, place: words[1], list: words[2] as u32 }, level: words[6] as u32 }
+}
+
+fn told(call: impl FnOnce(*mut u64, usize)) -> Answer {
+    found(call).answer
 }
 
 /// The call for C, which packs the number and the place.
@@ -46,6 +51,10 @@ pub fn check(depth: u32, list: &[u32]) -> Answer {
 
 pub fn volume(depth: u32, list: &[u32]) -> Answer {
     told(|p, n| unsafe { probe_volume(depth, list.as_ptr(), list.len(), p, n) })
+}
+
+pub fn lookup(depth: u32, list: &[u32], at: [u32; 3]) -> Finding {
+    found(|p, n| unsafe { probe_lookup(depth, list.as_ptr(), list.len(), at[0], at[1], at[2], p, n) })
 }
 
 pub fn set(op: Op, depth: u32, a: &[u32], b: &[u32], out: &mut [u32]) -> Answer {

@@ -102,6 +102,50 @@ pub fn volume(depth: u32, list: &[u32]) -> Answer {
     }
 }
 
+/// What a lookup tells: the answer, and the level beside it.
+#[derive(Clone, Copy, PartialEq, Eq, Debug)]
+pub struct Finding {
+    pub answer: Answer,
+    pub level: u32,
+}
+
+/// How many labels of two voxel numbers come after the first that differs.
+fn part_at(a: u32, b: u32) -> u32 {
+    (31 - (a ^ b).leading_zeros()) / 3
+}
+
+/// The colour of voxel v of a good list, and the level of its cell: the leaf that holds it, or the largest cell that has neither the last voxel of the leaf before
+/// it nor the first of the leaf after it.
+fn found(depth: u32, list: &[u32], v: u32) -> (bool, u32) {
+    let after = list.partition_point(|code| start(depth, *code) <= v);
+    let mut levels = depth;
+    if after > 0 {
+        let code = list[after - 1];
+        let last = start(depth, code) + width(depth, code) - 1;
+        if v <= last {
+            return (true, (31 - code.leading_zeros()) / 3);
+        }
+        levels = part_at(v, last);
+    }
+    if let Some(code) = list.get(after) {
+        levels = levels.min(part_at(v, start(depth, *code)));
+    }
+    (false, depth - levels)
+}
+
+/// Called as the archive's is, not put in the loop's place.
+#[inline(never)]
+pub fn lookup(depth: u32, list: &[u32], at: [u32; 3]) -> Finding {
+    if let Some(answer) = refused(depth, &[list]) {
+        return Finding { answer, level: 0 };
+    }
+    if at.iter().any(|x| *x >= 1 << depth) {
+        return Finding { answer: told(6, 0, 0), level: 0 };
+    }
+    let (black, level) = found(depth, list, interleaved(depth, at));
+    Finding { answer: told(0, black as u64, 0), level }
+}
+
 /// The pending black run, and the codes written before it.
 pub struct Emitter<'a> {
     depth: u32,

@@ -1,4 +1,5 @@
-//! Lists of 16,384 leaves at depth 10, of five shapes, each twice: as it is and displaced; a million cells, each with a direction; and bits of two shapes at depth 6.
+//! Lists of 16,384 leaves at depth 10, of five shapes, each twice: as it is and displaced; voxels to look up in each; a million cells, each with a direction; and
+//! bits of two shapes at depth 6.
 use crate::plain;
 
 pub const DEPTH: u32 = 10;
@@ -156,6 +157,20 @@ pub fn steps() -> Vec<Step> {
         Step { code, d: [1, 3, 9].map(|weight| (n / weight % 3) as i32 - 1) }
     };
     (0..1_000_000).map(|_| one()).collect()
+}
+
+/// Ten thousand voxels to look up in a list: by turns in the root, and in one of its leaves or beside it.
+pub fn sought(list: &[u32]) -> Vec<[u32; 3]> {
+    let mut state = 6;
+    let one = |i: usize| {
+        let code = if i % 2 == 0 { 1 } else { list[next(&mut state) as usize % list.len()] };
+        let side = 1 << (DEPTH - (31 - code.leading_zeros()) / 3);
+        [0, 1, 2].map(|axis| {
+            let from = plain::coordinate(DEPTH, plain::start(DEPTH, code), axis) - 1;
+            (from + next(&mut state) as i64 % (side + 2)).clamp(0, (1 << DEPTH) - 1) as u32
+        })
+    };
+    (0..10_000).map(one).collect()
 }
 
 pub fn all() -> Vec<Shape> {

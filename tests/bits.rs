@@ -1,7 +1,9 @@
 //! The plain engine, one bit a voxel: ticket 5. What a call should leave is worked out voxel by voxel, over coordinates. Then the two engines stand side by side, by
 //! the calls alone.
-use crate::link::{self, answer, given, Answer, Told, Wrote};
+use crate::levels;
+use crate::link::{self, answer, found, given, Answer, Told, Wrote};
 use crate::lists;
+use crate::lookups;
 use crate::model::{self, told, Op, Said};
 use crate::moves;
 use crate::run::Run;
@@ -136,14 +138,20 @@ fn move_of(depth: u32, from: &[u8], way: Way, room: usize) -> Said<u8> {
     }
 }
 
+/// Whether the voxel's bit is 1.
+fn is_one(depth: u32, bits: &[u8], at: [u32; 3]) -> bool {
+    let v = model::number(depth, at);
+    bits[(v / 8) as usize] >> (v % 8) & 1 == 1
+}
+
+/// The level by the bits of each cell that holds the voxel.
 fn lookup_of(depth: u32, bits: &[u8], at: [u32; 3]) -> Result<Answer, Answer> {
     not_too_deep(depth)?;
     if at.iter().any(|x| *x >= 1 << depth) {
         return Err(answer(6, 0, 0));
     }
     long_enough(depth, bits.len())?;
-    let v = model::number(depth, at);
-    Ok(answer(0, (bits[(v / 8) as usize] >> (v % 8) & 1) as u64, 0))
+    Ok(found(is_one(depth, bits, at), levels::by_voxels(depth, at, |u| is_one(depth, bits, u))))
 }
 
 // ---- each call against that
@@ -232,6 +240,17 @@ impl Ground {
     fn looked_up_by_both(&self, run: &mut Run, at: [u32; 3]) {
         let Ground { depth, ref bits, ref list } = *self;
         run.same(|| format!("look up {depth} {list:?} {at:?} by both engines"), link::bits_lookup(8, depth, bits, at), link::lookup(8, depth, list, at));
+    }
+
+    /// The planner's law in the bits. A voxel outside the root has no cell.
+    fn planned(&self, run: &mut Run, at: [u32; 3]) {
+        let Ground { depth, ref bits, .. } = *self;
+        if at.iter().any(|x| *x >= 1 << depth) {
+            return;
+        }
+        let look = |u| link::bits_lookup(8, depth, bits, u);
+        let other = |level| levels::voxels(depth, at, level).find(|u| is_one(depth, bits, *u) != is_one(depth, bits, at));
+        lookups::planned(run, || format!("look up in bits {depth} {bits:?}"), depth, at, look, other);
     }
 }
 
@@ -438,6 +457,18 @@ fn whole(run: &mut Run, one: &Ground) {
     }
     for at in places(one.depth) {
         one.lookups(run, 8, at);
+        one.planned(run, at);
+    }
+}
+
+/// Every voxel of the ground in bits and by both engines; here and there the planner's law.
+fn everywhere(run: &mut Run, one: &Ground) {
+    for at in places(one.depth) {
+        lookup(run, 8, one.depth, &one.bits, at);
+        one.looked_up_by_both(run, at);
+        if run.below(16) == 0 {
+            one.planned(run, at);
+        }
     }
 }
 
@@ -482,6 +513,7 @@ fn about(run: &mut Run, n: usize, depth: u32) {
         let far = run.one_of(&[side, side, side, 2 * side, 1 << 32]);
         let at = [0; 3].map(|_: u32| run.below(far) as u32);
         one.lookups(run, n, at);
+        one.planned(run, at);
     }
     let d = moves::displacement(run, depth);
     one.moves(run, n, Way::Voxels(d));
@@ -503,6 +535,12 @@ pub fn all(run: &mut Run) {
         let (bits, inner) = (some(run, 2), middle(run, 2));
         whole(run, &ground(2, bits));
         whole(run, &ground(2, inner));
+    }
+    for _ in 0..run.cases / 40 {
+        for depth in [2, 3] {
+            let bits = some(run, depth);
+            everywhere(run, &ground(depth, bits));
+        }
     }
     // each depth for certain, then at random
     for depth in 2..=6 {

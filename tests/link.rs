@@ -91,6 +91,11 @@ pub fn answer(number: u64, place: u64, list: u64) -> Answer {
     Answer { number, place, list, beside: [0; 4] }
 }
 
+/// What a lookup tells of a voxel: 1 or 0 for its colour, and the level as the last word beside it.
+pub fn found(black: bool, level: u32) -> Answer {
+    Answer { beside: [0, 0, 0, level as u64], ..answer(0, black as u64, 0) }
+}
+
 const GUARD: u64 = 0xa5a5_5a5a_c3c3_3c3c;
 
 /// Calls `f` with an answer buffer of n words between guards, and tells the answer, or what went wrong with the buffer.

@@ -1,4 +1,5 @@
 //! Document 01 done plainly: cells as rows of labels and cubes of coordinates.
+use crate::levels::Leaves;
 use crate::link::{answer, Answer, Wrote};
 
 pub const DEEPEST: u32 = 10;
@@ -197,9 +198,9 @@ pub fn volume_of(depth: u32, list: &[u32]) -> Answer {
     refusal(depth, &[list]).unwrap_or_else(|| answer(0, volume(&black(depth, list)), 0))
 }
 
-/// The voxel number of coordinates in the root.
+/// The voxel number of coordinates in the root: their bits by turns.
 pub fn number(depth: u32, at: [u32; 3]) -> u64 {
-    interval(depth, code(depth, Cell { corner: at, level: depth })).unwrap().0
+    (0..depth).flat_map(|bit| (0..3).map(move |axis| (at[axis] as u64 >> bit & 1) << (3 * bit + axis as u32))).sum()
 }
 
 /// The coordinates of a voxel number.
@@ -207,6 +208,7 @@ pub fn voxel(depth: u32, v: u64) -> [u32; 3] {
     cell(depth, (1 << (3 * depth)) + v as u32).unwrap().corner
 }
 
+/// The colour by the runs of black voxels, the level by the leaves.
 pub fn lookup_of(depth: u32, list: &[u32], at: [u32; 3]) -> Answer {
     if let Some(a) = refusal(depth, &[list]) {
         return a;
@@ -214,7 +216,8 @@ pub fn lookup_of(depth: u32, list: &[u32], at: [u32; 3]) -> Answer {
     if at.iter().any(|x| *x >= 1 << depth) {
         return answer(6, 0, 0);
     }
-    answer(0, has(&black(depth, list), number(depth, at)) as u64, 0)
+    let black = has(&black(depth, list), number(depth, at));
+    Answer { place: black as u64, ..Leaves::new(depth, list).found(at) }
 }
 
 /// The leaves met in the neighbour cell: the companion's answer, and the part as its range of indices.

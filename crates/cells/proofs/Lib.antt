@@ -10,6 +10,7 @@ pub mod Decisions
 -- a proper code as level, index and levels below: the one view of a cell; the other views from it
 pub mod Cells
 pub mod Levels
+pub mod Parting
 pub mod Words
 pub mod Places
 pub mod CornerLaws

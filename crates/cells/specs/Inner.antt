@@ -1,9 +1,10 @@
--- INNER: for the contracts of private and inner functions: a coordinate on the grid of a level, a step along one axis, and where a search stops.
+-- INNER: for the contracts of private and inner functions: a coordinate on the grid of a level, a step along one axis, where a search stops, and where two
+-- numbers part.
 -- Definitions only.
 use mathlib.Core.Path.{_≡_}
 use mathlib.Core.Logic.{_⊎_}
 use mathlib.Core.Bool.{Bool, true, false, _&&_}
-use Prim.Native.Nat.{ℕ, zero, suc, _+_, _*_, _%_, _^_, _≤_, _<_}
+use Prim.Native.Nat.{ℕ, zero, suc, _+_, _*_, _/_, _%_, _^_, _≤_, _<_}
 use lib.Dec.{ltb, eqb}
 use lib.IntN.{ℤ, pos, negsuc}
 use Rattle.cells.specs.Place.{along, Displaced, Came}
@@ -42,3 +43,8 @@ pub record Stops (n : ℕ) (P : ℕ → Bool) (r : ℕ) : Type 0 where
   pub within : r ≤ n
   pub before : (i : ℕ) → i < r → P i ≡ true
   pub here : r < n → P r ≡ false
+
+-- n is the place of the first label in which the numbers a and b differ, the last label's being 0: they have all labels before it in common
+pub record PartAt (a b n : ℕ) : Type 0 where
+  pub apart : a / 8 ^ n ≡ b / 8 ^ n → ⊥
+  pub together : a / 8 ^ suc n ≡ b / 8 ^ suc n

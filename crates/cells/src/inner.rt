@@ -6,6 +6,7 @@ ghost use Prim.Native.Nat.{_+_, _≤_, _<_, _^_};
 ghost use Rattle.cells.specs.Answer.{answer, given, deepest};
 ghost use Rattle.cells.specs.Cell.{level, proper, span, start};
 ghost use Rattle.cells.specs.Place.{along, number, corner};
+ghost use Rattle.cells.specs.Inner.{PartAt};
 
 // The place of a word's highest bit.
 const TOP_BIT: u32 = 31;
@@ -117,4 +118,12 @@ pub fn number_of(n: u32, x: u32, y: u32, z: u32) -> u32
         return 0;
     }
     8 * number_of(n - 1, x / 2, y / 2, z / 2) + (x % 2 + 2 * (y % 2) + 4 * (z % 2))
+}
+
+// The place of the first label in which two numbers differ, the last label's being 0: three bits to a label, and the highest one bit of their exclusive or is in it.
+pub fn part_at(a: u32, b: u32) -> u32
+    requires { ⌜ (a ≡ b → ⊥) ⌝ }
+    ensures { λ r. ⌜ PartAt a b r ⌝ }
+{
+    (TOP_BIT - u32::leading_zeros(a ^ b)) / 3
 }

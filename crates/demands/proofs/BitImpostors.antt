@@ -9,7 +9,8 @@ use lib.IntN.{pos}
 use Rattle.cells.specs.Answer.{answer, given}
 use Rattle.cells.specs.declared.Answer.{Answer}
 use Rattle.cells.proofs.Decisions.{passes, deep-enough}
-use Rattle.records.specs.Calls.{LookupOf}
+use Rattle.records.specs.Lookups.{unseen, LookupOf}
+use Rattle.records.specs.declared.lookups.Finding.{Finding}
 use Rattle.sets.specs.declared.Op.{Op}
 use Rattle.sets.specs.declared.Op.the-variants.{Join, Intersect, Subtract}
 use Rattle.metres.specs.declared.Move.{Move}
@@ -65,8 +66,8 @@ rejects-set-bits op r o refused h = refused (ap numberOf (set-left op r o h))
 pub rejects-move-bits : (r : Answer) (o : List ℕ) → (Succeeds r → ⊥) → MoveBitsOf 1 (1 ∷ []) along-x two-bytes r o → ⊥
 rejects-move-bits r o refused h = refused (ap numberOf (one-move-bits 1 (1 ∷ []) along-x two-bytes (r, o) _ h move-bits-holds))
 
-pub rejects-lookup-bits : (r : Answer) → (Succeeds r → ⊥) → LookupBitsOf 1 (9 ∷ []) 1 1 0 r → ⊥
-rejects-lookup-bits r refused h = refused (ap (λ (a : Answer). a .number) (one-lookup-bits 1 (9 ∷ []) 1 1 0 r _ h lookup-bits-holds))
+pub rejects-lookup-bits : (r : Finding) → (Succeeds (r .answer) → ⊥) → LookupBitsOf 1 (9 ∷ []) 1 1 0 r → ⊥
+rejects-lookup-bits r refused h = refused (ap (λ (f : Finding). f .answer .number) (one-lookup-bits 1 (9 ∷ []) 1 1 0 r _ h lookup-bits-holds))
 
 -- ---- one that hands out fixed bits, whatever the operation or what is moved
 
@@ -142,18 +143,18 @@ spare-bits-read o h = let e : _≡_ {A = ℕ} 1 0 = ap placeOf (one-to-list 0 (2
 
 -- ---- one that tests the bits before the voxel: it tells the same of each voxel as the lists' lookup does, and what it answers does not fit
 
-reordered : (D : ℕ) (b : List ℕ) (x y z : ℕ) (r : Answer) → Roomy r → shortFirst D b x y z r → LookupBitsOf D b x y z r
+reordered : (D : ℕ) (b : List ℕ) (x y z : ℕ) (r : Finding) → Roomy (r .answer) → shortFirst D b x y z r → LookupBitsOf D b x y z r
 reordered D b x y z r room (inl t) = inl t
-reordered D b x y z r room (inr (_, inl (a, (_, e), f))) = absurd (room (ap (λ (q : Answer). q .number) (f ∙ e)))
+reordered D b x y z r room (inr (_, inl (a, (_, e), f))) = absurd (room (ap (λ (q : Finding). q .answer .number) (f ∙ ap unseen e)))
 reordered D b x y z r room (inr (deep, inr (_, inl t))) = inr (deep, inl t)
 reordered D b x y z r room (inr (deep, inr (long, inr (inside, e)))) = inr (deep, inr (inside, inr (long, e)))
 
-pub short-first : LooksAlike LookupOf shortFirst × (shortFirst 1 [] 2 0 0 (answer 8 1 0) × (LookupBitsOf 1 [] 2 0 0 (answer 8 1 0) → ⊥))
+pub short-first : LooksAlike LookupOf shortFirst × (shortFirst 1 [] 2 0 0 (unseen (answer 8 1 0)) × (LookupBitsOf 1 [] 2 0 0 (unseen (answer 8 1 0)) → ⊥))
 unfolding bytesFor
 short-first = (
   λ D l b h x i j k r s t t′ room. looks-alike D l b h x i j k r s t (reordered D b i j k s room t′) room,
   (
     inr (passes (deep-enough (omega arith)), inl (answer 8 1 0, (omega arith, refl), refl)),
-    λ h. let e : _≡_ {A = ℕ} 8 6 = ap (λ (q : Answer). q .number) (one-lookup-bits 1 [] 2 0 0 (answer 8 1 0) _ h (lookup-bits-refuses [])) in omega arith,
+    λ h. let e : _≡_ {A = ℕ} 8 6 = ap (λ (q : Finding). q .answer .number) (one-lookup-bits 1 [] 2 0 0 (unseen (answer 8 1 0)) _ h (lookup-bits-refuses [])) in omega arith,
   ),
 )

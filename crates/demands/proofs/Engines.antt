@@ -20,14 +20,15 @@ use Rattle.cells.proofs.Places.{number-lt}
 use Rattle.cells.proofs.Power.{le-or-lt}
 use Rattle.records.specs.Record.{black, Good, ListOf}
 use Rattle.records.specs.Carried.{FromBlack, Strays}
-use Rattle.records.specs.Count.{bit}
-use Rattle.records.specs.Calls.{NoVoxel, LookupOf}
+use Rattle.records.specs.Lookups.{NoVoxel, unseen, seen, SeenIn, LookupOf}
+use Rattle.records.specs.declared.lookups.Finding.{Finding}
 use Rattle.records.specs.Fault.{Faulty}
 use Rattle.records.proofs.Fault.{member-at, index-of, in-order}
 use Rattle.records.proofs.First.{good-passes, not-faulty, faulty-numbered}
 use Rattle.records.proofs.Leaves.{member-black, leaf-of}
 use Rattle.records.proofs.Lists.{holds-true, black-in-root}
 use Rattle.records.proofs.OneList.{one-list, list-of-itself}
+use Rattle.records.proofs.Sizes.{one-seen, same-largest}
 use Rattle.sets.specs.Sets.{Chosen, SetOf}
 use Rattle.sets.specs.declared.Op.{Op}
 use Rattle.sets.specs.declared.Op.the-variants.{Join, Intersect, Subtract}
@@ -278,23 +279,29 @@ combines-alike op D a b a' b' h x y o o' r t room p p' s t′ room′ = go t′
 
 pub looks-alike : LooksAlike LookupOf LookupBitsOf
 looks-alike D l b h x i j k r s t t′ room =
-    let listed = decided-past alone (TooDeep deepest D) (Faulty D l 1 ∷ NoVoxel D (axes i j k) ∷ []) Listed r (not-deep D (shallow h)) t in
-    go (decided-past alone (Faulty D l 1) (NoVoxel D (axes i j k) ∷ []) Listed r (good-passes D l 1 (x .good)) listed)
-    (decided-past alone (TooDeep deepestPlain D) (NoVoxel D (axes i j k) ∷ BitsShort D b ∷ []) Read s (passes (deep-enough h)) t′)
+    let listed = decided-past unseen (TooDeep deepest D) (Faulty D l 1 ∷ NoVoxel D (axes i j k) ∷ []) Listed r (not-deep D (shallow h)) t in
+    go (decided-past unseen (Faulty D l 1) (NoVoxel D (axes i j k) ∷ []) Listed r (good-passes D l 1 (x .good)) listed)
+    (decided-past unseen (TooDeep deepestPlain D) (NoVoxel D (axes i j k) ∷ BitsShort D b ∷ []) Read s (passes (deep-enough h)) t′)
   where
     -- what each tells of a voxel in the root
-    Listed : Answer → Type 0
-    Listed a = a ≡ given (bit (black D l (number D i j k)))
+    Listed : Finding → Type 0
+    Listed = SeenIn D (black D l) (number D i j k)
 
-    Read : Answer → Type 0
-    Read a = a ≡ given (bit (blackIn D b (number D i j k)))
+    Read : Finding → Type 0
+    Read = SeenIn D (blackIn D b) (number D i j k)
 
-    roomy : Decided alone (BitsShort D b ∷ []) Read s → Read s
-    roomy (inl (a, (_, e), f)) = absurd (room (told (f ∙ e)))
+    roomy : Decided unseen (BitsShort D b ∷ []) Read s → Read s
+    roomy (inl (a, (_, e), f)) = absurd (room (ap (λ (q : Finding). q .answer .number) f ∙ told e))
     roomy (inr (_, e)) = e
 
-    go : Decided alone (NoVoxel D (axes i j k) ∷ []) Listed r → Decided alone (NoVoxel D (axes i j k) ∷ BitsShort D b ∷ []) Read s → s ≡ r
-    go (inl (a, (_, e), f)) (inl (c, (_, e′), f′)) = f′ ∙ e′ ∙ sym e ∙ sym f
+    -- the colours are the same, so the cell is
+    both : Read s → Listed s
+    both (n, largest, e) =
+        let back : (u : ℕ) → u < 8 ^ D → blackIn D b u ≡ black D l u = λ u g. sym (x .same u g) in
+        (n, same-largest (blackIn D b) (black D l) back (number D i j k) n largest, e ∙ ap (λ (c : Bool). seen c n) (back (number D i j k) (number-lt D i j k)))
+
+    go : Decided unseen (NoVoxel D (axes i j k) ∷ []) Listed r → Decided unseen (NoVoxel D (axes i j k) ∷ BitsShort D b ∷ []) Read s → s ≡ r
+    go (inl (a, (_, e), f)) (inl (c, (_, e′), f′)) = f′ ∙ ap unseen (e′ ∙ sym e) ∙ sym f
     go (inl (a, (out, _), _)) (inr (inside, _)) = absurd (inside (answer 6 0 0) (out, refl))
     go (inr (inside, _)) (inl (c, (out, _), _)) = absurd (inside (answer 6 0 0) (out, refl))
-    go (inr (_, e)) (inr (_, d)) = roomy d ∙ ap (λ (c : Bool). given (bit c)) (sym (x .same (number D i j k) (number-lt D i j k))) ∙ sym e
+    go (inr (_, e)) (inr (_, d)) = one-seen s r (both (roomy d)) e

@@ -15,7 +15,9 @@ use Rattle.cells.specs.declared.corners.Corner.{Corner}
 use Rattle.cells.proofs.CornerLaws.{one-place, one-code}
 use Rattle.cells.proofs.NeighbourLaws.{one-neighbour-of}
 use Rattle.cells.proofs.Instances.{place-holds, code-holds, neighbour-holds}
-use Rattle.records.specs.Calls.{CheckOf, LookupOf, VolumeOf}
+use Rattle.records.specs.Calls.{CheckOf, VolumeOf}
+use Rattle.records.specs.Lookups.{LookupOf}
+use Rattle.records.specs.declared.lookups.Finding.{Finding}
 use Rattle.records.specs.Writing.{stands}
 use Rattle.records.specs.Met.{MetOf, MetAtOf}
 use Rattle.records.proofs.CallLaws.{one-check, one-lookup, one-volume}
@@ -71,8 +73,8 @@ rejects-neighbour r refused h = refused (ap (λ (s : Answer). s .number) (one-ne
 pub rejects-cab-neighbour : (w : ℕ) → 2 ^ 32 ≤ w → Packed (NeighbourOf 3 994 (axes (negsuc 0) (pos 1) (pos 1))) w → ⊥
 rejects-cab-neighbour w refused h = let e : w ≡ 957 = one-cab-neighbour 3 994 (axes (negsuc 0) (pos 1) (pos 1)) w 957 h cab-neighbour-holds in omega arith
 
-pub rejects-lookup : (r : Answer) → (Succeeds r → ⊥) → LookupOf 3 r057 3 1 3 r → ⊥
-rejects-lookup r refused h = refused (ap (λ (s : Answer). s .number) (one-lookup 3 r057 3 1 3 r _ h lookup-holds))
+pub rejects-lookup : (r : Finding) → (Succeeds (r .answer) → ⊥) → LookupOf 3 r057 3 1 3 r → ⊥
+rejects-lookup r refused h = refused (ap (λ (s : Finding). s .answer .number) (one-lookup 3 r057 3 1 3 r _ h lookup-holds))
 
 pub rejects-met-at : (r : Answer) → (Succeeds r → ⊥) → MetAtOf 2 r0-r2 67 (axes (pos 0) (pos 1) (pos 0)) r → ⊥
 rejects-met-at r refused h = refused (ap (λ (s : Answer). s .number) (one-met-at 2 r0-r2 67 (axes (pos 0) (pos 1) (pos 0)) r _ h met-at-holds))

@@ -12,6 +12,8 @@ pub mod Room
 pub mod OverAndBack
 -- ticket 4: quarter turns
 pub mod Turns
+-- ticket 6: the lookup that tells the size
+pub mod Lookups
 -- ticket 5: both engines
 pub mod Engines
 -- calls worked out, and the checked examples of document 01
@@ -27,3 +29,4 @@ pub mod TextImpostors
 pub mod DfImpostors
 pub mod TurnImpostors
 pub mod BitImpostors
+pub mod LookupImpostors

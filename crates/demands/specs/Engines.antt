@@ -10,10 +10,12 @@ use Rattle.cells.specs.Cell.{holds}
 use Rattle.cells.specs.declared.Answer.{Answer}
 use Rattle.records.specs.Record.{black, Good}
 use Rattle.records.specs.Calls.{CheckOf}
+use Rattle.records.specs.declared.lookups.Finding.{Finding}
 use Rattle.metres.specs.declared.Move.{Move}
 use Rattle.plain.specs.Bits.{bytesFor, bitAt, blackIn}
 use Rattle.plain.specs.Calls.{deepestPlain}
 use Rattle.demands.specs.Laws.{Carrier, Combiner, Succeeds, Unaccepted, Roomy, wrote}
+use Rattle.demands.specs.Lookups.{Looker}
 use Rattle.demands.specs.OverAndBack.{Unmeasured}
 
 -- l is a good list, and the bits b have its voxels
@@ -90,10 +92,6 @@ CombinesAlike C K =
     → (p p' : List ℕ) (s : Answer) → K D a' b' p s p' → Roomy s
     → Succeeds r × Succeeds s × SameVoxels D (wrote r o') p'
 
--- a call that tells of a voxel: the depth, what is read, and the voxel's x, y and z
-abbrev pub Looker : Type 1
-Looker = ℕ → List ℕ → ℕ → ℕ → ℕ → Answer → Type 0
-
--- a voxel looked up in a list, and in its bits: the same answer, refusals too
+-- a voxel looked up in a list, and in its bits: the same answer and level, refusals too
 abbrev pub LooksAlike : Looker → Looker → Type 0
-LooksAlike L K = (D : ℕ) (l b : List ℕ) → D ≤ deepestPlain → SameVoxels D l b → (x y z : ℕ) (r s : Answer) → L D l x y z r → K D b x y z s → Roomy s → s ≡ r
+LooksAlike L K = (D : ℕ) (l b : List ℕ) → D ≤ deepestPlain → SameVoxels D l b → (x y z : ℕ) (r s : Finding) → L D l x y z r → K D b x y z s → Roomy (s .answer) → s ≡ r

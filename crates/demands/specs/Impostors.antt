@@ -4,17 +4,16 @@ use mathlib.Core.Bool.{true}
 use mathlib.Core.List.{[], _∷_}
 use Prim.Native.Nat.{ℕ, _*_, _%_}
 use lib.IntN.{ℤ, pos}
-use Rattle.cells.specs.Answer.{given, Decided, alone, keeping, deepest, TooDeep}
+use Rattle.cells.specs.Answer.{Decided, keeping, deepest, TooDeep}
 use Rattle.cells.specs.Place.{axes, number}
 use Rattle.records.specs.Record.{black}
-use Rattle.records.specs.Count.{bit}
 use Rattle.records.specs.Fault.{Faulty}
-use Rattle.records.specs.Calls.{NoVoxel}
+use Rattle.records.specs.Lookups.{NoVoxel, unseen, seen, SeenIn}
 use Rattle.records.specs.Writing.{WritesListOf}
 use Rattle.plain.specs.Bits.{blackIn}
 use Rattle.plain.specs.Calls.{deepestPlain, BitsShort}
-use Rattle.demands.specs.Engines.{Looker}
 use Rattle.demands.specs.Laws.{Carrier, Combiner, move}
+use Rattle.demands.specs.Lookups.{Looker}
 use Rattle.demands.specs.Turns.{turn}
 
 -- A call with the tests of join, intersect and subtract, that gives the good list of the voxels that T takes, from whether they are black in the first list and in the
@@ -36,7 +35,11 @@ alongX D l d = move D l (axes (d 0) (pos 0) (pos 0))
 
 -- a lookup in bits that tests the bits before the voxel
 abbrev pub shortFirst : Looker
-shortFirst D b x y z = Decided alone (TooDeep deepestPlain D ∷ BitsShort D b ∷ NoVoxel D (axes x y z) ∷ []) (λ r. r ≡ given (bit (blackIn D b (number D x y z))))
+shortFirst D b x y z = Decided unseen (TooDeep deepestPlain D ∷ BitsShort D b ∷ NoVoxel D (axes x y z) ∷ []) (SeenIn D (blackIn D b) (number D x y z))
+
+-- a lookup that tells the level of a voxel, D, whatever the cell
+abbrev pub voxelAlone : Looker
+voxelAlone D l x y z = Decided unseen (TooDeep deepest D ∷ Faulty D l 1 ∷ NoVoxel D (axes x y z) ∷ []) (λ r. r ≡ seen (black D l (number D x y z)) D)
 
 -- a turn that goes the other way round: three times as many this way
 abbrev pub otherWay : Carrier ℕ

@@ -4,6 +4,8 @@ pub mod Laws
 pub mod OverAndBack
 -- quarter turns: ticket 4
 pub mod Turns
+-- the lookup that tells the size: ticket 6
+pub mod Lookups
 -- both engines: ticket 5
 pub mod Engines
 -- calls that are none of the library's

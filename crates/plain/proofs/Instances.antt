@@ -1,12 +1,12 @@
 -- Answers of the plain engine's calls that fit their definitions at named inputs, and answers that do not. Assumes nothing.
 use mathlib.Core.Path.{_≡_, refl, sym, ap, _∙_, subst}
 use mathlib.Core.Logic.{_↔_, inl, inr}
-use mathlib.Core.Bool.{Bool, true, _&&_}
+use mathlib.Core.Bool.{Bool, true, false, not, _&&_}
 use mathlib.Core.List.{List, [], _∷_}
-use Prim.Native.Nat.{ℕ, zero, suc, _*_, _^_, _<_, _≤_, zero-le}
+use Prim.Native.Nat.{ℕ, zero, suc, _*_, _/_, _^_, _<_, _≤_, zero-le}
 use native.Mathlib.Omega.{arith}
 use borrow.Author.Tests.{ltb-true, eqb-true, lt-ltb, le-ltb}
-use lib.Dec.{ltb, eqb}
+use lib.Dec.{lit<, lit≤, ltb, eqb}
 use lib.IntN.{ℤ, pos, negℤ}
 use lib.ListN.{length, getD, take}
 use lib.Seq.{take-length}
@@ -21,10 +21,14 @@ use Rattle.records.specs.Record.{black, Good, ListOf}
 use Rattle.records.specs.Carried.{FromBlack}
 use Rattle.records.specs.Count.{bit}
 use Rattle.records.specs.Fault.{allFrom}
+use Rattle.records.specs.Gap.{Free}
+use Rattle.records.specs.Lookups.{unseen, seen}
 use Rattle.records.specs.Writing.{stands}
+use Rattle.records.specs.declared.lookups.Finding.{Finding}
 use Rattle.records.proofs.Fill.{all-true, upto, leaves, goodList, is-good}
 use Rattle.records.proofs.First.{good-passes}
 use Rattle.records.proofs.OneList.{good-list}
+use Rattle.records.proofs.Sizes.{free-largest}
 use Rattle.records.proofs.Writing.{writes-fitting, too-short}
 use Rattle.sets.specs.Inner.{chosen}
 use Rattle.sets.specs.declared.Op.{Op}
@@ -263,15 +267,27 @@ unfolding bytesFor
 move-bits-short o =
     inr (passes (deep-enough (omega arith)), (pos 1, pos 0, pos 0, each-axis _ refl refl refl, inl (answer 8 1 0, (omega arith, refl), refl)))
 
--- ---- lookups in the byte 9: the voxel (1, 1, 0) is the number 3
+-- ---- lookups in the byte 9: the voxel (1, 1, 0) is the number 3, black and alone in its colour but for the voxel 0
 
-pub lookup-bits-holds : LookupBitsOf 1 (9 ∷ []) 1 1 0 (given 1)
+r3-free : Free 1 3 0 (λ u. blackIn 1 (9 ∷ []) u ≡ not (blackIn 1 (9 ∷ []) 3))
+unfolding bitAt blackIn
+r3-free = record { levels = lit≤ tt; none = none; some = λ h. (1, refl, refl) }
+  where
+    none : (u : ℕ) → u / 8 ^ 0 ≡ 3 / 8 ^ 0 → blackIn 1 (9 ∷ []) u ≡ false → ⊥
+    none u e white = let is : u ≡ 3 = omega arith in clash refl (rw is at white)
+
+pub lookup-bits-holds : LookupBitsOf 1 (9 ∷ []) 1 1 0 (seen true 1)
 unfolding number bytesFor bitAt blackIn
-lookup-bits-holds = inr (passes (deep-enough (omega arith)), inr (passes (λ out. clash refl out), inr (passes (λ short. omega arith), refl)))
+lookup-bits-holds =
+    inr (passes (deep-enough (omega arith)), inr (passes (λ out. clash refl out), inr (passes (λ short. omega arith), (1, free-largest 1 (blackIn 1 (9 ∷ [])) 3 0 (lit< tt) r3-free, refl))))
 
-pub lookup-bits-fails : LookupBitsOf 1 (9 ∷ []) 1 1 0 (given 0) → ⊥
-lookup-bits-fails h = let e : _≡_ {A = ℕ} 0 1 = ap (λ (r : Answer). r .place) (one-lookup-bits 1 (9 ∷ []) 1 1 0 _ _ h lookup-bits-holds) in omega arith
+pub lookup-bits-fails : (k : ℕ) → LookupBitsOf 1 (9 ∷ []) 1 1 0 (seen false k) → ⊥
+lookup-bits-fails k h = let e : _≡_ {A = ℕ} 0 1 = ap (λ (r : Finding). r .answer .place) (one-lookup-bits 1 (9 ∷ []) 1 1 0 _ _ h lookup-bits-holds) in omega arith
+
+-- the level of the root does not fit either
+pub lookup-bits-level-fails : LookupBitsOf 1 (9 ∷ []) 1 1 0 (seen true 0) → ⊥
+lookup-bits-level-fails h = let e : _≡_ {A = ℕ} 0 1 = ap (λ (r : Finding). r .level) (one-lookup-bits 1 (9 ∷ []) 1 1 0 _ _ h lookup-bits-holds) in omega arith
 
 -- outside the root, before the bits are looked at
-pub lookup-bits-refuses : (b : List ℕ) → LookupBitsOf 1 b 2 0 0 (answer 6 0 0)
+pub lookup-bits-refuses : (b : List ℕ) → LookupBitsOf 1 b 2 0 0 (unseen (answer 6 0 0))
 lookup-bits-refuses b = inr (passes (deep-enough (omega arith)), inl (answer 6 0 0, (refl, refl), refl))

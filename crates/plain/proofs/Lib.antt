@@ -5,6 +5,7 @@ pub mod BitLaws
 pub mod Cursor
 -- voxels displaced, and their colours
 pub mod Voxels
+pub mod Outwards
 -- the calls
 pub mod PlainLaws
 pub mod Instances

@@ -8,16 +8,17 @@ use native.Mathlib.Omega.{arith}
 use lib.IntN.{ℤ}
 use lib.ListN.{length, take}
 use lib.Seq.{getD-take}
-use Rattle.cells.specs.Answer.{answer, given, Test, Decided, alone, keeping, TooDeep}
+use Rattle.cells.specs.Answer.{answer, given, Test, Decided, keeping, TooDeep}
 use Rattle.cells.specs.Place.{axes, Came}
 use Rattle.cells.specs.declared.Answer.{Answer}
-use Rattle.cells.proofs.Decisions.{One, Numbered, one-equal, one-refuses, one-refuses-first, one-decided, passes, shallow-enough, refuses-numbered, refuses-first-numbered, decided-passed}
+use Rattle.cells.proofs.Decisions.{One, Numbered, one-refuses, one-refuses-first, one-decided, passes, shallow-enough, refuses-numbered, refuses-first-numbered, decided-passed}
 use Rattle.records.specs.Record.{black, Good}
 use Rattle.records.specs.Fault.{Faulty}
-use Rattle.records.specs.Calls.{NoVoxel}
+use Rattle.records.specs.Lookups.{NoVoxel, unseen}
 use Rattle.records.specs.Carried.{FromBlack}
 use Rattle.records.specs.Writing.{stands, TooShort, WritesListOf}
 use Rattle.records.proofs.First.{not-faulty, faulty-numbered}
+use Rattle.records.proofs.Sizes.{one-seen}
 use Rattle.records.proofs.Fronts.{Front, Written, left-front, ListSuccess, list-success}
 use Rattle.emit.proofs.Answers.{one-list-written}
 use Rattle.sets.specs.Sets.{Chosen}
@@ -71,7 +72,7 @@ one-move-bits D b m o =
     one-decided (keeping o) (TooDeep deepestPlain D ∷ moveTests m) _ (one-refuses, one-move-tests m) (one-by-voxels m (ShiftBitsOf D b o) (one-shift-bits D b o))
 
 pub one-lookup-bits : (D : ℕ) (b : List ℕ) (x y z : ℕ) → One (LookupBitsOf D b x y z)
-one-lookup-bits D b x y z = one-decided alone (TooDeep deepestPlain D ∷ NoVoxel D (axes x y z) ∷ BitsShort D b ∷ []) _ (one-refuses, (one-refuses, (one-refuses, tt))) one-equal
+one-lookup-bits D b x y z = one-decided unseen (TooDeep deepestPlain D ∷ NoVoxel D (axes x y z) ∷ BitsShort D b ∷ []) _ (one-refuses, (one-refuses, (one-refuses, tt))) one-seen
 
 -- ---- what success says: the bits stand at the front of the buffer, and the buffer's voxels are those that have P
 

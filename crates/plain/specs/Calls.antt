@@ -6,13 +6,13 @@ use mathlib.Core.List.{List, [], _∷_}
 use Prim.Native.Nat.{ℕ, _^_}
 use lib.IntN.{ℤ}
 use lib.ListN.{length}
-use Rattle.cells.specs.Answer.{answer, given, Test, Decided, alone, keeping, refusesFirst, TooDeep}
+use Rattle.cells.specs.Answer.{answer, given, Test, Decided, keeping, refusesFirst, TooDeep}
 use Rattle.cells.specs.Place.{axes, number, Came}
 use Rattle.cells.specs.declared.Answer.{Answer}
 use Rattle.records.specs.Record.{black}
-use Rattle.records.specs.Count.{bit}
 use Rattle.records.specs.Fault.{Faulty}
-use Rattle.records.specs.Calls.{NoVoxel}
+use Rattle.records.specs.Lookups.{NoVoxel, unseen, SeenIn}
+use Rattle.records.specs.declared.lookups.Finding.{Finding}
 use Rattle.records.specs.Carried.{FromBlack}
 use Rattle.records.specs.Writing.{stands, TooShort, WritesListOf}
 use Rattle.sets.specs.Sets.{Chosen}
@@ -66,8 +66,6 @@ ShiftBitsOf D b o d =
 abbrev pub MoveBitsOf : ℕ → List ℕ → Move → List ℕ → Answer → List ℕ → Type 0
 MoveBitsOf D b m o r o' = Decided (keeping o) (TooDeep deepestPlain D ∷ moveTests m) (ByVoxels m (ShiftBitsOf D b o)) (r, o')
 
--- THE CALL lookup_bits, of the voxel x, y, z in the bits b: 1 for a black voxel, 0 for a white one
-abbrev pub LookupBitsOf : ℕ → List ℕ → ℕ → ℕ → ℕ → Answer → Type 0
-LookupBitsOf D b x y z =
-    Decided alone (TooDeep deepestPlain D ∷ NoVoxel D (axes x y z) ∷ BitsShort D b ∷ [])
-    (λ r. r ≡ given (bit (blackIn D b (number D x y z))))
+-- THE CALL lookup_bits, of the voxel x, y, z in the bits b: what the lookup in a list tells
+abbrev pub LookupBitsOf : ℕ → List ℕ → ℕ → ℕ → ℕ → Finding → Type 0
+LookupBitsOf D b x y z = Decided unseen (TooDeep deepestPlain D ∷ NoVoxel D (axes x y z) ∷ BitsShort D b ∷ []) (SeenIn D (blackIn D b) (number D x y z))

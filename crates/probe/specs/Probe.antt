@@ -6,6 +6,7 @@ use Prim.Native.Nat.{ℕ, _-_, _<_, _≤_, min}
 use lib.ListN.{length, replicate, take, drop}
 use lib.Ieee.{Float}
 use Rattle.cells.specs.declared.Answer.{Answer}
+use Rattle.records.specs.declared.lookups.Finding.{Finding}
 use Rattle.metres.specs.declared.Metres.{Metres}
 
 -- the buffer o afterwards: number, place, list, the four numbers beside the place, and 0 in the rest
@@ -23,6 +24,10 @@ Tells o o' F = Probed o (o' ≡ o) ((a : Answer) × F a × (o' ≡ told o a 0 0 
 -- the same of a call that is lent a buffer: p, and p' afterwards
 abbrev pub Writes : List ℕ → List ℕ → List ℕ → List ℕ → (Answer → List ℕ → Type 0) → Type 0
 Writes o o' p p' F = Probed o ((o' ≡ o) × (p' ≡ p)) ((a : Answer) × F a p' × (o' ≡ told o a 0 0 0 0))
+
+-- a voxel's finding that fits F is told: its answer, with the level last beside the place
+abbrev pub Finds : List ℕ → List ℕ → (Finding → Type 0) → Type 0
+Finds o o' F = Probed o (o' ≡ o) ((r : Finding) × F r × (o' ≡ told o (r .answer) 0 0 0 (r .level)))
 
 -- the codes l at the front of the buffer o, as many as fit
 abbrev pub copied : List ℕ → List ℕ → List ℕ

@@ -12,7 +12,7 @@ use plain::to_list;
 ghost use Rattle.metres.specs.declared.Move.the-variants as the-move;
 ghost use Rattle.sets.specs.declared.Op.the-variants.{Join, Intersect, Subtract};
 ghost use Rattle.plain.specs.Calls.{ToBitsOf, ToListOf, SetBitsOf, MoveBitsOf, LookupBitsOf};
-ghost use Rattle.probe.specs.Probe.{Tells, Writes, metresOf};
+ghost use Rattle.probe.specs.Probe.{Finds, Writes, metresOf};
 
 #[no_mangle]
 pub extern "C" fn probe_bits_from(depth: u32, list: &[u32], bits: &mut [u8], answer: &mut [u64])
@@ -134,6 +134,7 @@ pub extern "C" fn probe_bits_less(
     tell(answer, r, 0, 0, 0, 0);
 }
 
+// With the level beside the place.
 #[no_mangle]
 pub extern "C" fn probe_bits_lookup(
     depth: u32,
@@ -143,10 +144,12 @@ pub extern "C" fn probe_bits_lookup(
     z: u32,
     answer: &mut [u64],
 )
-    ensures { λ _. ⌜ Tells (now (answer .entry)) (now (answer .exit)) (LookupBitsOf depth (now (bits .entry)) x y z) ⌝ }
+    ensures { λ _. ⌜ Finds (now (answer .entry)) (now (answer .exit)) (LookupBitsOf depth (now (bits .entry)) x y z) ⌝ }
 {
     if answer.len() < 8 {
         return;
     }
-    tell(answer, lookup_bits(depth, bits, x, y, z), 0, 0, 0, 0);
+    let r = lookup_bits(depth, bits, x, y, z);
+    let a = r.answer;
+    tell(answer, a, 0, 0, 0, r.level as u64);
 }

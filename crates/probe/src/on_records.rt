@@ -11,10 +11,11 @@ ghost use Prim.Native.Nat.{ℕ};
 ghost use lib.ListN.{length};
 ghost use denote.Ref.{ptr};
 ghost use Rattle.cells.specs.declared.Answer.{Answer};
-ghost use Rattle.records.specs.Calls.{CheckOf, LookupOf, VolumeOf};
+ghost use Rattle.records.specs.Calls.{CheckOf, VolumeOf};
+ghost use Rattle.records.specs.Lookups.{LookupOf};
 ghost use Rattle.records.specs.Met.{MetOf, MetAtOf};
 ghost use Rattle.cells.specs.Place.{axes};
-ghost use Rattle.probe.specs.Probe.{told, Probed, Tells, copied};
+ghost use Rattle.probe.specs.Probe.{told, Probed, Tells, Finds, copied};
 
 #[no_mangle]
 pub extern "C" fn probe_check(depth: u32, list: &[u32], answer: &mut [u64])
@@ -36,14 +37,17 @@ pub extern "C" fn probe_volume(depth: u32, list: &[u32], answer: &mut [u64])
     tell(answer, volume(depth, list), 0, 0, 0, 0);
 }
 
+// With the level beside the place.
 #[no_mangle]
 pub extern "C" fn probe_lookup(depth: u32, list: &[u32], x: u32, y: u32, z: u32, answer: &mut [u64])
-    ensures { λ _. ⌜ Tells (now (answer .entry)) (now (answer .exit)) (LookupOf depth (now (list .entry)) x y z) ⌝ }
+    ensures { λ _. ⌜ Finds (now (answer .entry)) (now (answer .exit)) (LookupOf depth (now (list .entry)) x y z) ⌝ }
 {
     if answer.len() < 8 {
         return;
     }
-    tell(answer, lookup(depth, list, x, y, z), 0, 0, 0, 0);
+    let r = lookup(depth, list, x, y, z);
+    let a = r.answer;
+    tell(answer, a, 0, 0, 0, r.level as u64);
 }
 
 // As many codes of `from` as fit, at the front of `to`.

@@ -11,9 +11,11 @@ use Rattle.cells.specs.declared.Answer.{Answer}
 use Rattle.cells.proofs.Decisions.{One, one-equal, one-refuses, one-refuses-first, one-decided, refuses-numbered, Opening, opening-given, shallow-enough}
 use Rattle.records.specs.Record.{Good}
 use Rattle.records.specs.Fault.{Faulty}
-use Rattle.records.specs.Calls.{NoVoxel, CheckOf, LookupOf, VolumeOf}
+use Rattle.records.specs.Calls.{CheckOf, VolumeOf}
+use Rattle.records.specs.Lookups.{NoVoxel, unseen, LookupOf}
 use Rattle.records.proofs.First.{faulty-numbered, not-faulty}
 use Rattle.records.proofs.Most.{few-leaves}
+use Rattle.records.proofs.Sizes.{one-seen}
 
 -- ---- past `check`
 
@@ -47,4 +49,4 @@ module _ (D : ℕ) (l : List ℕ) where
   one-volume = one-decided alone (TooDeep deepest D ∷ Faulty D l 1 ∷ []) _ (one-refuses, (one-refuses-first, tt)) one-equal
 
   pub one-lookup : (x y z : ℕ) → One (LookupOf D l x y z)
-  one-lookup x y z = one-decided alone (TooDeep deepest D ∷ Faulty D l 1 ∷ NoVoxel D (axes x y z) ∷ []) _ (one-refuses, (one-refuses-first, (one-refuses, tt))) one-equal
+  one-lookup x y z = one-decided unseen (TooDeep deepest D ∷ Faulty D l 1 ∷ NoVoxel D (axes x y z) ∷ []) _ (one-refuses, (one-refuses-first, (one-refuses, tt))) one-seen

@@ -2,8 +2,9 @@
 -- Assumes nothing.
 use mathlib.Core.Path.{_≡_, refl, ap}
 use mathlib.Core.Logic.{inl, inr}
-use mathlib.Core.List.{List, [], _∷_}
-use Prim.Native.Nat.{ℕ, zero, suc, _≤_, _<_}
+use mathlib.Core.Bool.{true, false, not}
+use mathlib.Core.List.{List, [], _∷_, List·Memᴰ, List·Memᴰ·head, List·Memᴰ·tail, List·Memᴰ·not-nil}
+use Prim.Native.Nat.{ℕ, zero, suc, _/_, _^_, _≤_, _<_}
 use native.Mathlib.Omega.{arith}
 use lib.Dec.{lit<, lit≤, eqb, eqb→eq}
 use lib.IntN.{pos}
@@ -15,7 +16,7 @@ use Rattle.cells.specs.Neighbour.{Neighbour, NeighbourOf}
 use Rattle.cells.specs.Payeur.{digitOf}
 use Rattle.cells.specs.declared.Answer.{Answer}
 use Rattle.cells.proofs.Bools.{clash}
-use Rattle.cells.proofs.Decisions.{passes}
+use Rattle.cells.proofs.Decisions.{passes, passes-first}
 use Rattle.cells.proofs.Places.{each-axis}
 use Rattle.cells.proofs.Directions.{directed}
 use Rattle.cells.proofs.Table.{at}
@@ -24,9 +25,16 @@ use Rattle.cells.proofs.Instances.{west, westward, neighbour-refuses}
 use Rattle.records.specs.Record.{black}
 use Rattle.records.specs.Count.{count}
 use Rattle.records.specs.Fault.{allFrom, early, eightAt, fault, Faulty}
-use Rattle.records.specs.Calls.{CheckOf, LookupOf, VolumeOf}
+use Rattle.records.specs.Calls.{CheckOf, VolumeOf}
+use Rattle.records.specs.Lookups.{Largest, unseen, seen, LookupOf}
+use Rattle.records.specs.Gap.{Free}
+use Rattle.records.specs.declared.lookups.Finding.{Finding}
 use Rattle.records.specs.Met.{MetPart, unmet, MeetingOf, MetOf, MetAtOf}
+use Rattle.records.proofs.Lists.{holds-true}
+use Rattle.records.proofs.Leaves.{leaf-of}
+use Rattle.records.proofs.First.{not-faulty}
 use Rattle.records.proofs.Part.{part-made}
+use Rattle.records.proofs.Sizes.{free-largest, leaf-largest}
 use Rattle.records.proofs.CallLaws.{one-check, one-lookup, one-volume}
 use Rattle.records.proofs.MetLaws.{one-met-at, one-met}
 
@@ -50,13 +58,51 @@ check-holds = inr (passes (λ h. omega arith), inr (none-faulty, refl))
 pub check-fails : CheckOf 3 one (given 2) → ⊥
 check-fails h = let e : _≡_ {A = ℕ} 2 1 = ap (λ (r : Answer). r .place) (one-check 3 one _ _ h check-holds) in omega arith
 
--- r057 stands at 3, 1, 3
-pub lookup-holds : LookupOf 3 one 3 1 3 (given 1)
-unfolding number level index span start holds black
-lookup-holds = inr (passes (λ h. omega arith), inr (none-faulty, inr (passes (clash refl), refl)))
+-- r057 stands at 3, 1, 3: black, and the leaf is a voxel
+r057-largest : Largest 3 (black 3 one) 47 3
+unfolding level index span start holds
+r057-largest = leaf-largest 3 one (not-faulty 3 one 1 none-faulty) 47 559 (List·Memᴰ·head refl) refl
 
-pub lookup-fails : LookupOf 3 one 3 1 3 (given 0) → ⊥
-lookup-fails h = let e : _≡_ {A = ℕ} 0 1 = ap (λ (r : Answer). r .place) (one-lookup 3 one 3 1 3 _ _ h lookup-holds) in omega arith
+pub lookup-holds : LookupOf 3 one 3 1 3 (seen true 3)
+unfolding number level index span start holds black
+lookup-holds = inr (passes (λ h. omega arith), inr (none-faulty, inr (passes (clash refl), (3, r057-largest, refl))))
+
+pub lookup-fails : (k : ℕ) → LookupOf 3 one 3 1 3 (seen false k) → ⊥
+lookup-fails k h = let e : _≡_ {A = ℕ} 0 1 = ap (λ (r : Finding). r .answer .place) (one-lookup 3 one 3 1 3 _ _ h lookup-holds) in omega arith
+
+-- it is the one black voxel
+only-black : (u : ℕ) → black 3 one u ≡ true → u ≡ 47
+unfolding level index span start
+only-black u dark = go (leaf-of 3 one u dark)
+  where
+    go : (c : ℕ) × List·Memᴰ c one × (holds 3 c u ≡ true) → u ≡ 47
+    go (c, List·Memᴰ·head e, h) = let (lo, hi) = holds-true 3 559 u (rw e at h) in omega arith
+    go (c, List·Memᴰ·tail m, h) = absurd (List·Memᴰ·not-nil m)
+
+-- so at 0, 0, 0 the largest white cell is r00: r0 has r057
+r00-free : Free 3 0 1 (λ u. black 3 one u ≡ not (black 3 one 0))
+unfolding level index span start holds black
+r00-free = record { levels = lit≤ tt; none = none; some = λ h. (47, refl, refl) }
+  where
+    none : (u : ℕ) → u / 8 ^ 1 ≡ 0 / 8 ^ 1 → black 3 one u ≡ true → ⊥
+    none u e dark = let is = only-black u dark in omega arith
+
+pub lookup-white : LookupOf 3 one 0 0 0 (seen false 2)
+unfolding number level index span start holds black
+lookup-white = inr (passes (λ h. omega arith), inr (none-faulty, inr (passes (clash refl), (2, free-largest 3 (black 3 one) 0 1 (lit< tt) r00-free, refl))))
+
+pub lookup-white-fails : (k : ℕ) → (k ≡ 2 → ⊥) → LookupOf 3 one 0 0 0 (seen false k) → ⊥
+lookup-white-fails k other h = other (ap (λ (r : Finding). r .level) (one-lookup 3 one 0 0 0 _ _ h lookup-white))
+
+-- the empty list: the root
+pub lookup-empty : LookupOf 1 [] 0 0 0 (seen false 0)
+unfolding number black
+lookup-empty =
+    inr (passes (λ h. omega arith), inr (passes-first (λ i h. absurd (omega arith)), inr (passes (clash refl), (0, free-largest 1 (black 1 []) 0 1 (lit< tt) (record { levels = lit≤ tt; none = λ u e dark. clash dark refl; some = λ h. absurd (omega arith) }), refl))))
+
+-- outside the root: no level
+pub lookup-refuses : LookupOf 3 one 8 0 0 (unseen (answer 6 0 0))
+lookup-refuses = inr (passes (λ h. omega arith), inr (none-faulty, inl (answer 6 0 0, (refl, refl), refl)))
 
 pub volume-holds : VolumeOf 3 one (given 1)
 unfolding level index span start holds black count

@@ -25,6 +25,9 @@ pub mod Search
 pub mod Edges
 pub mod SlotLaws
 pub mod Arrays
+-- the largest cell of one colour that holds a voxel, and what bounds it in a list
+pub mod Sizes
+pub mod Gaps
 -- what follows of the calls, and instances
 pub mod CallLaws
 -- what is written to the front of a buffer, and what a caller may then take there

@@ -3,6 +3,7 @@ pub mod Record
 pub mod Count
 pub mod Fault
 pub mod Calls
+pub mod Lookups
 pub mod Writing
 pub mod Met
 pub mod Carried
@@ -10,3 +11,4 @@ pub mod Carried
 pub mod Inner
 pub mod Walk
 pub mod Slot
+pub mod Gap

@@ -1,4 +1,5 @@
 // INNER: the walk that judges a list, the search in a good one, and the test that a voxel lies in the root, for the crates above. A host must not call these.
+pub mod findings;
 pub mod slots;
 
 use cells::Answer;

@@ -1,5 +1,5 @@
 // A tour of the main job: `tour OURS THEIRS` takes two stored files, our record and one that arrived from a machine with another origin. It lists both, moves
-// theirs to our origin, joins the two, stores the join and lists it, and tells the volumes; then it shows two refusals.
+// theirs to our origin, joins the two, stores the join and lists it, tells the volumes, and looks two voxels up; then it shows two refusals.
 mod print;
 
 use arrivals::arrive;
@@ -12,6 +12,8 @@ use print::LEAVES;
 use print::load;
 use print::show;
 use print::tell;
+use print::tell_found;
+use records::lookup;
 use records::volume;
 use sets::intersect;
 
@@ -32,6 +34,24 @@ fn report(depth: u32, own: &[u32], moved: &[u32], file: &[u8]) {
     tell(b"volume of the intersection", volume(depth, &both[..n]));
 }
 
+// Two voxels of the joined record in its file: the colour of each, and the level of the largest cell of that colour that holds it. In the sample records the first
+// lies in the leaf r13, cut by theirs alone, and the second four voxels above it in r5, where nothing is cut.
+fn look(file: &[u8]) {
+    let mut codes = [0u32; LEAVES];
+    let found = read(file, &mut codes);
+    let answer = found.answer;
+    let number = answer.number;
+    if number != 0 {
+        tell(b"not read", answer);
+        return;
+    }
+    let depth = found.depth;
+    let n = answer.place as usize;
+    let joined = &codes[..n];
+    tell_found(b"voxel 7 3 1", lookup(depth, joined, 7, 3, 1));
+    tell_found(b"voxel 7 3 5", lookup(depth, joined, 7, 3, 5));
+}
+
 // The two lists joined, and the join stored.
 fn store(depth: u32, own: &[u32], moved: &[u32]) {
     let mut joined = [0u32; LEAVES];
@@ -43,7 +63,9 @@ fn store(depth: u32, own: &[u32], moved: &[u32]) {
         return;
     }
     let size = stored.place as usize;
-    report(depth, own, moved, &file[..size]);
+    let written = &file[..size];
+    report(depth, own, moved, written);
+    look(written);
 }
 
 // The job, with the words for the move's answer: ours is read; theirs is read and moved by `m`; and the two are joined and stored.

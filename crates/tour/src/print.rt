@@ -4,6 +4,7 @@ use blocks::BLOCK_CODES;
 use blocks::read;
 use cells::Answer;
 use libc::STDOUT_FILENO;
+use records::Finding;
 use text::LONGEST_HEAD;
 use text::LONGEST_PATH;
 use text::list_text;
@@ -36,8 +37,8 @@ fn put(text: &[u8]) {
     io::write_all(STDOUT_FILENO, text);
 }
 
-// An answer: what was asked, and its number, place and list.
-pub fn tell(asked: &[u8], answer: Answer) {
+// What was asked, and the answer's number, place and list.
+fn put_answer(asked: &[u8], answer: Answer) {
     put(asked);
     put(b": number ");
     io::print_decimal(STDOUT_FILENO, answer.number as u64);
@@ -45,6 +46,20 @@ pub fn tell(asked: &[u8], answer: Answer) {
     io::print_decimal(STDOUT_FILENO, answer.place);
     put(b" list ");
     io::print_decimal(STDOUT_FILENO, answer.list as u64);
+}
+
+// An answer, on a line.
+pub fn tell(asked: &[u8], answer: Answer) {
+    put_answer(asked, answer);
+    put(b"\n");
+}
+
+// What a lookup tells, on a line: its answer, and the level beside it.
+pub fn tell_found(asked: &[u8], finding: Finding) {
+    let answer = finding.answer;
+    put_answer(asked, answer);
+    put(b" level ");
+    io::print_decimal(STDOUT_FILENO, finding.level as u64);
     put(b"\n");
 }
 

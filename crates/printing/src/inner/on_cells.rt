@@ -12,8 +12,7 @@ fn place(depth: u32, code: u32) {
     print::number(r.x as u64);
     print::number(r.y as u64);
     print::number(r.z as u64);
-    print::text(b" level");
-    print::number(r.level as u64);
+    print::level(r.level);
     print::end();
 }
 

@@ -17,14 +17,14 @@ fn volume(depth: u32, list: &[u32]) {
     print::end();
 }
 
-fn lookup(depth: u32, list: &[u32], x: u32, y: u32, z: u32) {
+pub fn lookup(depth: u32, list: &[u32], x: u32, y: u32, z: u32) {
     print::text(b"lookup");
     print::number(depth as u64);
     print::codes(list);
     print::number(x as u64);
     print::number(y as u64);
     print::number(z as u64);
-    print::answer(records::lookup(depth, list, x, y, z));
+    print::finding(records::lookup(depth, list, x, y, z));
     print::end();
 }
 
@@ -54,17 +54,25 @@ fn checked_lists() {
     check(11, &[7]);
 }
 
-fn volumes_and_voxels() {
+fn volumes() {
     // a voxel, the root, and a list that is refused
     volume(3, &[559]);
     volume(3, &[1]);
     volume(3, &[]);
     volume(3, &[0]);
-    // r057 stands at 3, 1, 3
+}
+
+fn voxels() {
+    // r057 stands at 3, 1, 3; r053 at 3, 1, 2 is white, and r05 is not all white; where all is of one colour the cell is the root, of level 0
     lookup(3, &[559], 3, 1, 3);
     lookup(3, &[559], 3, 1, 2);
-    lookup(3, &[559], 8, 0, 0);
+    lookup(3, &[], 3, 1, 2);
+    lookup(3, &[1], 3, 1, 2);
+    // refused, with level 0, in the order of the tests, what comes later being at fault too: the depth, a list, a voxel outside the root
+    lookup(11, &[0], 2048, 0, 0);
+    lookup(3, &[0], 8, 0, 0);
     lookup(3, &[559, 559], 8, 0, 0);
+    lookup(3, &[559], 8, 0, 0);
 }
 
 fn leaves_met() {
@@ -79,6 +87,7 @@ fn leaves_met() {
 
 pub fn run() {
     checked_lists();
-    volumes_and_voxels();
+    volumes();
+    voxels();
     leaves_met();
 }

@@ -2,6 +2,7 @@
 use cells::Answer;
 use libc::STDOUT_FILENO;
 use moves::inner::part;
+use records::Finding;
 
 pub fn text(s: &[u8]) {
     io::write_all(STDOUT_FILENO, s);
@@ -53,6 +54,18 @@ pub fn answer(a: Answer) {
     number(a.number as u64);
     number(a.place);
     number(a.list as u64);
+}
+
+pub fn level(n: u32) {
+    text(b" level");
+    number(n as u64);
+}
+
+// What a lookup tells: its answer, and the level beside it.
+pub fn finding(f: Finding) {
+    let a = f.answer;
+    answer(a);
+    level(f.level);
 }
 
 // The codes that an answer says are written at the front of a buffer: none where it is refused.

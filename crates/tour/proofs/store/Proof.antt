@@ -20,4 +20,4 @@ store-spec =
     (λ c. search needs) (λ c. search needs) (λ c κs. search needs) (λ c. search needs) (λ c κs. search needs) (λ c. search needs)
     (λ c. merge-success _ _ _ _ _ _ _ _ (at-merge c .merge .ensures) (none c) .front .within)
     (λ c. let else1 = c .before in merge-success _ _ _ _ _ _ _ _ (at-merge else1 .merge .ensures) (none else1) .front .exact)
-    (λ c κs. search needs) (λ c. search needs))
+    (λ c κs. search needs) (λ c κs. search needs) (λ c. search needs))
