@@ -1,5 +1,5 @@
-//! Lookups: a voxel's colour, and the level of the largest cell of that colour that holds it: ticket 6. Every voxel of small roots, and voxels at the edges of leaves
-//! at any depth. Then what the planner counts on, by the calls alone.
+//! Lookups: a voxel's colour, and the level of the largest cell of that colour that holds it: ticket 6. Every voxel of small roots, and voxels at the edges of
+//! leaves at any depth. Then what the planner counts on, by the calls alone.
 use crate::levels::{self, Leaves, Painting};
 use crate::link::{self, answer, found, Answer, Told};
 use crate::lists;
@@ -71,8 +71,8 @@ fn others(run: &mut Run, depth: u32, at: [u32; 3], level: u32) -> BTreeSet<[u32;
     corners.chain(inside).filter(|u| *u != at).collect()
 }
 
-/// A voxel of another colour in the cell of that level that holds a voxel. Where there is one, the first voxel of the cell or an end of the first run that ends after
-/// it is one: runs do not touch.
+/// A voxel of another colour in the cell of that level that holds a voxel. Where there is one, the first voxel of the cell or an end of the first run that ends
+/// after it is one: runs do not touch.
 fn contrast(depth: u32, black: &Runs, at: [u32; 3], level: u32) -> Option<[u32; 3]> {
     let (start, end) = model::interval(depth, model::code(depth, Cell { corner: corner(depth, at, level), level })).unwrap();
     let colour = model::has(black, model::number(depth, at));
@@ -81,8 +81,8 @@ fn contrast(depth: u32, black: &Runs, at: [u32; 3], level: u32) -> Option<[u32; 
     ends.into_iter().chain([start]).find(is_other).map(|v| model::voxel(depth, v))
 }
 
-/// The planner's law, by the calls alone: every voxel of the told cell is told the same, and the next larger cell has a voxel of another colour. `other` finds that one
-/// in the cell of a level.
+/// The planner's law, by the calls alone: every voxel of the told cell is told the same, and the next larger cell has a voxel of another colour. `other` finds that
+/// one in the cell of a level.
 pub fn planned(run: &mut Run, what: impl Fn() -> String, depth: u32, at: [u32; 3], look: impl Fn([u32; 3]) -> Told, other: impl Fn(u32) -> Option<[u32; 3]>) {
     let told = look(at).expect("a call that keeps what it was lent").expect("an answer in eight words");
     let level = told.beside[3];
