@@ -1,6 +1,8 @@
 // Taking in a record: the order's job over the layer's public calls, to copy into a program of one's own. A machine's stored file arrives, is read and moved to
 // our origin; then it is joined with our record, and the joined record is stored. The buffers are the caller's.
 // A call is refused as the layer's calls are. It then leaves its last buffer as it was; those before it are for work, and hold what the steps until then wrote.
+#![tactic(auto)]
+
 ghost use Rattle.arrivals.specs.Arrivals.{ArriveOf, MergeOf};
 
 use blocks::{read, write};

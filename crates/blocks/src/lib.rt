@@ -1,6 +1,8 @@
 // Stored blocks: document 01, "Stored blocks". A file is blocks of 512 bytes, each of 128 little-endian words: 0 the block's index, 1 the number of blocks,
 // 2 the depth, 3 how many codes the block holds, 4 to 125 the codes, 126 and 127 the check.
 // A host calls `check_blocks`, `stored_volume`, `read` and `write`.
+#![tactic(auto)]
+
 mod checker;
 mod inner;
 mod measurer;

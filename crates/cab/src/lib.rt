@@ -1,4 +1,6 @@
 // The calls for the C controller in the cab: on numbers and bytes, each returning number x 2^32 + place.
+#![tactic(auto)]
+
 ghost use Rattle.std.specs.Prelude.{◌≡◌};
 ghost use Rattle.blocks.specs.Calls.{BlockCheckOf, StoredVolumeOf};
 ghost use Rattle.cells.specs.Answer.{answer};

@@ -1,5 +1,7 @@
 // Cells of a root cube by their codes: document 01, "Cells and codes" and "Neighbours".
 // A host calls `place`, `code` and `neighbour`; `inner` is for the crates above.
+#![tactic(auto)]
+
 mod corners;
 pub mod inner;
 mod neighbours;

@@ -1,5 +1,7 @@
 // DF text, the depth-first form of document 002: ticket 1 of document 02.
 // A host calls `df_read` and `df_write`; `inner` is the two descents under them.
+#![tactic(auto)]
+
 mod inner;
 
 ghost use Rattle.df.specs.Df.{DfReadOf, DfWriteOf};

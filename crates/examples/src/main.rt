@@ -1,4 +1,6 @@
 // Runs the examples of documents 01 and 02 and prints a line for each: the call and its inputs, then number, place and list, and what comes beside them.
+#![tactic(auto)]
+
 mod on_blocks;
 mod on_df;
 mod on_moves;

@@ -1,4 +1,6 @@
 // Moves, in whole voxels or in metres: document 01, "Moves". The move call is in the crate above; `inner` turns a move into whole voxels for it.
+#![tactic(auto)]
+
 pub mod inner;
 
 // The greatest edge number.

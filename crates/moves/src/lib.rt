@@ -1,4 +1,6 @@
 // Moves: document 01, "Moves". A host calls `move_list`; `inner` is the acceptance and the shift back under it.
+#![tactic(auto)]
+
 ghost use Rattle.std.specs.Prelude.{◌≤◌};
 ghost use Rattle.cells.specs.Answer.{Decided, keeping, deepest};
 ghost use Rattle.cells.specs.Place.{axes};

@@ -1,4 +1,6 @@
 // Every public call for tests and benchmarks that link an archive: each fills an answer buffer of at least 8 words, and with a shorter one does nothing.
+#![tactic(auto)]
+
 mod inner;
 pub mod on_bits;
 pub mod on_blocks;

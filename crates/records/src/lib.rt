@@ -1,5 +1,7 @@
 // Lists of leaves: document 01, "Lists" and "Neighbours".
 // A host calls `check`, `lookup`, `volume`, `met` and `met_at`; `inner` is for the crates above.
+#![tactic(auto)]
+
 mod checks;
 pub mod inner;
 mod lookups;

@@ -1,5 +1,7 @@
 // Writes a sample record as a stored file to standard output, of a site of depth 3: our own or, with any argument, one that arrives from a machine whose origin
 // lies 4 voxels to the east and 2 to the north of ours.
+#![tactic(auto)]
+
 use blocks::write;
 use libc::STDOUT_FILENO;
 

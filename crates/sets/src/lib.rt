@@ -1,5 +1,7 @@
 // Join, intersection and difference of two lists: document 01, "Lists".
 // A host calls `join`, `intersect` and `subtract`; `inner` is the sweep under them.
+#![tactic(auto)]
+
 ghost use Rattle.sets.specs.Sets.{SetOf};
 ghost use Rattle.sets.specs.declared.Op.TheVariants.{Join, Intersect, Subtract};
 

@@ -1,5 +1,7 @@
 // The bytes of a listing: document 01, "Listing program".
 // A host calls `list_text` and `refused_text`; `inner` is for the crates above.
+#![tactic(auto)]
+
 pub mod inner;
 
 ghost use Rattle.text.specs.Text.{TextOf, RefusedOf};

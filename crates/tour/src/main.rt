@@ -1,5 +1,7 @@
 // A tour of the main job: `tour OURS THEIRS` takes two stored files, our record and one that arrived from a machine with another origin. It lists both, moves
 // theirs to our origin, joins the two, stores the join and lists it, tells the volumes, and looks two voxels up; then it shows two refusals.
+#![tactic(auto)]
+
 mod print;
 
 use arrivals::{arrive, merge};

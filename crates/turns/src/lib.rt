@@ -1,4 +1,6 @@
 // Quarter turns of a list about the root's vertical axis: ticket 4 of document 02. A host calls `turn_list`; `inner` is the descent under it.
+#![tactic(auto)]
+
 mod inner;
 
 ghost use Rattle.turns.specs.Turns.{TurnOf};

@@ -27,7 +27,7 @@ pub +axis_spec : {M : Type 1} → statement M
     (axis_below t, axis.Post)
     (axis_at t)
     axis.Post
-    (λ c. along_none _ _ _ c.if1.true)
+    (λ c. along_none _ _ _ c.if-n-eq0.true)
     (λ c. omega arith)
     (λ c κs. omega arith)
     (λ c. let a = c.before.before.args in omega (arith, c.axis.ensures, along_lt a.b (a.n - 1) (a.v / 8), pow2_small (a.n - 1) (omega arith)))

@@ -12,7 +12,7 @@ use Rattle.cells.proofs.inner.coordinate.Tie as tie
 
 -- past the level
 
-module _ (c : tie.After-level-of) where
+module _ (c : tie.After-level_of-level) where
   abbrev start : tie.Start
   start = c.before
 
@@ -20,13 +20,13 @@ module _ (c : tie.After-level-of) where
   D = start.args.depth
 
   -- it is at most the depth, which is at most the greatest
-  low : (c.level-of.result ≤ D) × (D ≤ deepest)
-  low = omega (arith, c.level-of.ensures, level_le D start.args.code, start.pre.1)
+  low : (c.level_of-level.result ≤ D) × (D ≤ deepest)
+  low = omega (arith, c.level_of-level.ensures, level_le D start.args.code, start.pre.1)
 
 -- the product is the corner
 returns : tie.Need-returns
 unfolding index side corner
-returns c = rw (c.pow2.ensures, c.before.axis.ensures, c.before.before.pow8.ensures, c.before.before.before.level-of.ensures)
+returns c = rw (c.pow2.ensures, c.before.axis.ensures, c.before.before.pow8.ensures, c.before.before.before.level_of-level.ensures)
 
 pub coordinate_spec : {M : Type 1} → statement M
 coordinate_spec =
@@ -34,7 +34,7 @@ coordinate_spec =
     (tie.spec
     (λ c κs. (c.requires.1, c.requires.2))
     (λ c κs. omega (arith, low c))
-    (λ c. let at-level-of = c.before in rw (c.pow8.ensures, at-level-of.level-of.ensures) (proper_bounds (D at-level-of) (start at-level-of).args.code (start at-level-of).requires.2).0)
+    (λ c. let at-level-of = c.before in rw (c.pow8.ensures, at-level-of.level_of-level.ensures) (proper_bounds (D at-level-of) (start at-level-of).args.code (start at-level-of).requires.2).0)
     (λ c κs. let at-level-of = c.before in (omega (arith, low at-level-of), (start at-level-of).requires.0))
     (λ c. (low c.before.before).0)
     (λ c κs. omega (arith, low c.before.before))

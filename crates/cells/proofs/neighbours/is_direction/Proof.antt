@@ -32,7 +32,7 @@ module _ (d : ℕ → ℤ) where
 
 -- past the tests of the three
 
-module _ (c : tie.Else3) where
+module _ (c : tie.Else-not-is_step-3) where
   abbrev start : tie.Start
   start = c.before.before.before.before.before.before
 
@@ -42,9 +42,9 @@ module _ (c : tie.Else3) where
   are_steps : EachAxis (λ a. IsStep (steps a))
   are_steps =
       each_axis _
-      ((told start.args.dx start.fits.dx c.before.before.before.before.before.is-step.ensures).0 (not-false _ c.before.before.before.before.if1.false))
-      ((told start.args.dy start.fits.dy c.before.before.before.is-step2.ensures).0 (not-false _ c.before.before.if2.false))
-      ((told start.args.dz start.fits.dz c.before.is-step3.ensures).0 (not-false _ c.if3.false))
+      ((told start.args.dx start.fits.dx c.before.before.before.before.before.is_step.ensures).0 (c.before.before.before.before.if-not-is_step.false))
+      ((told start.args.dy start.fits.dy c.before.before.before.is_step-2.ensures).0 (c.before.before.if-not-is_step-2.false))
+      ((told start.args.dz start.fits.dz c.before.is_step-3.ensures).0 (c.if-not-is_step-3.false))
 
   -- bits of 0
   none : (z : ℤ) → SFits w32 z → of_z w32 z ≡ of_z w32 (pos 0) → z ≡ pos 0
@@ -55,18 +55,18 @@ is_direction_spec =
     tie.close
     (tie.spec
     (λ c κs. search rules)
-    (λ c. let start = c.before.before in no_step (axes start.args.dx start.args.dy start.args.dz) 0 (omega arith) (told start.args.dx start.ranges.dx c.before.is-step.ensures) (not-true _ c.if1.true))
+    (λ c. let start = c.before.before in no_step (axes start.args.dx start.args.dy start.args.dz) 0 (omega arith) (told start.args.dx start.ranges.dx c.before.is_step.ensures) (c.if-not-is_step.true))
     (λ c κs. search rules)
-    (λ c. let start = c.before.before.before.before in no_step (axes start.args.dx start.args.dy start.args.dz) 1 (omega arith) (told start.args.dy start.ranges.dy c.before.is-step2.ensures) (not-true _ c.if2.true))
+    (λ c. let start = c.before.before.before.before in no_step (axes start.args.dx start.args.dy start.args.dz) 1 (omega arith) (told start.args.dy start.ranges.dy c.before.is_step-2.ensures) (c.if-not-is_step-2.true))
     (λ c κs. search rules)
     (λ c.
     let start = c.before.before.before.before.before.before in
-    no_step (axes start.args.dx start.args.dy start.args.dz) 2 (omega arith) (told start.args.dz start.ranges.dz c.before.is-step3.ensures) (not-true _ c.if3.true))
-    (λ c. let else3 = c.before in some_step (steps else3) (are_steps else3) 0 (omega arith) c.if4.true)
-    (λ c. let else3 = c.before.before in some_step (steps else3) (are_steps else3) 1 (omega arith) c.if5.true)
-    (λ c. let else3 = c.before.before.before in some_step (steps else3) (are_steps else3) 2 (omega arith) c.if6.true)
+    no_step (axes start.args.dx start.args.dy start.args.dz) 2 (omega arith) (told start.args.dz start.ranges.dz c.before.is_step-3.ensures) (c.if-not-is_step-3.true))
+    (λ c. let else3 = c.before in some_step (steps else3) (are_steps else3) 0 (omega arith) c.if-dx-ne0.true)
+    (λ c. let else3 = c.before.before in some_step (steps else3) (are_steps else3) 1 (omega arith) c.if-dy-ne0.true)
+    (λ c. let else3 = c.before.before.before in some_step (steps else3) (are_steps else3) 2 (omega arith) c.if-dz-ne0.true)
     (λ c.
     let else3 = c.before.before.before in
     let from = start else3 in
     still (steps else3)
-    (each_axis _ (none else3 from.args.dx from.fits.dx c.before.before.if4.false) (none else3 from.args.dy from.fits.dy c.before.if5.false) (none else3 from.args.dz from.fits.dz c.if6.false))))
+    (each_axis _ (none else3 from.args.dx from.fits.dx c.before.before.if-dx-ne0.false) (none else3 from.args.dy from.fits.dy c.before.if-dy-ne0.false) (none else3 from.args.dz from.fits.dz c.if-dz-ne0.false))))

@@ -6,10 +6,10 @@ use Rattle.cells.proofs.Words.{word_bits, same_bits}
 use Rattle.cells.proofs.neighbours.step.Statement.{statement}
 use Rattle.cells.proofs.neighbours.step.Tie as tie
 
-returns : tie.Need-returns
+returns : tie.Need-returns-then-d-eq0
 returns c a k i on is =
     let start = c.before in
-    let none : start.args.d ≡ pos 0 = same_bits start.args.d (pos 0) start.ranges.d (record { sfits = omega arith }) c.if1.true in
+    let none : start.args.d ≡ pos 0 = same_bits start.args.d (pos 0) start.ranges.d (record { sfits = omega arith }) c.if-d-eq0.true in
     subst (λ (d : ℤ). OneStep a k i d start.args.code) (sym none) (step_none a k i start.args.code start.args.mask on)
 
 -- a step that is neither 0 nor back
@@ -18,36 +18,36 @@ is_forth d is some not_back = ⊎_elim (λ e. absurd (not_back (ap (of_z w32) e)
 
 -- ---- past the choice of a step forth or back
 
-module _ (c : tie.Joined2) where
+module _ (c : tie.Joined-d-eqminus1) where
   abbrev start : tie.Start
   start = c.before.before
 
   abbrev d : ℤ
   d = start.args.d
 
-  adds : (a k i : ℕ) → OnAxis a k i start.args.code start.args.mask → IsStep d → Adds a k d c.if2.one c.if2.border
+  adds : (a k i : ℕ) → OnAxis a k i start.args.code start.args.mask → IsStep d → Adds a k d c.if-d-eqminus1.one c.if-d-eqminus1.border
   adds a k i on is =
       ⊎_elim
       (λ w.
       let e = same_bits d (negsuc 0) start.fits.d (record { sfits = omega arith }) w.0.taken in
-      subst (λ (z : ℤ). Adds a k z c.if2.one c.if2.border) (sym e) (adds_back a k c.if2.one c.if2.border (w.1 ∙ on.is_mask) w.2))
+      subst (λ (z : ℤ). Adds a k z c.if-d-eqminus1.one c.if-d-eqminus1.border) (sym e) (adds_back a k c.if-d-eqminus1.one c.if-d-eqminus1.border (w.1 ∙ on.is_mask) w.2))
       (λ w.
-      let e = is_forth d is c.before.if1.false w.0.left in
-      subst (λ (z : ℤ). Adds a k z c.if2.one c.if2.border) (sym e) (adds_forth a k c.if2.one c.if2.border w.1 (w.2 ∙ on.is_mask)))
-      c.if2.branch
+      let e = is_forth d is c.before.if-d-eq0.false w.0.left in
+      subst (λ (z : ℤ). Adds a k z c.if-d-eqminus1.one c.if-d-eqminus1.border) (sym e) (adds_forth a k c.if-d-eqminus1.one c.if-d-eqminus1.border w.1 (w.2 ∙ on.is_mask)))
+      c.if-d-eqminus1.branch
 
-returns_2 : tie.Need-returns-2
+returns_2 : tie.Need-returns-then-code-mask
 returns_2 c a k i on is =
     let at-choice = c.before in
     let args = (start at-choice).args in
-    step_leaves word_bits a k i args.code args.mask (start at-choice).ranges.code.fits on args.d at-choice.if2.one at-choice.if2.border (adds at-choice a k i on is) c.if3.true
+    step_leaves word_bits a k i args.code args.mask (start at-choice).ranges.code.fits on args.d at-choice.if-d-eqminus1.one at-choice.if-d-eqminus1.border (adds at-choice a k i on is) c.if-code-mask.true
 
-returns_3 : tie.Need-returns-3
+returns_3 : tie.Need-returns
 returns_3 c a k i on is =
     let at-choice = c.before.before in
     let args = (start at-choice).args in
-    rw c.wrapping-add-u32.ensures
-    (step_stays word_bits a k i args.code args.mask (start at-choice).ranges.code.fits on args.d at-choice.if2.one at-choice.if2.border (adds at-choice a k i on is) c.before.if3.false)
+    rw c.wrapping_add_u32-sum.ensures
+    (step_stays word_bits a k i args.code args.mask (start at-choice).ranges.code.fits on args.d at-choice.if-d-eqminus1.one at-choice.if-d-eqminus1.border (adds at-choice a k i on is) c.before.if-code-mask.false)
 
 pub step_spec : {M : Type 1} → statement M
 step_spec = tie.close (tie.spec returns returns_2 (λ c κs. search rules) returns_3)
