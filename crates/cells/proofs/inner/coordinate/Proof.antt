@@ -21,7 +21,7 @@ module _ (c : tie.After-level_of-level) where
 
   -- it is at most the depth, which is at most the greatest
   low : (c.level_of-level.result ≤ D) × (D ≤ deepest)
-  low = omega (arith, c.level_of-level.ensures, level_le D start.args.code, start.pre.1)
+  low = omega (arith, c.level_of-level.ensures, level_le D start.args.code, start.requires.1)
 
 -- the product is the corner
 returns : tie.Need-returns

@@ -10,7 +10,7 @@ use Rattle.cells.proofs.inner.first.Tie as tie
 product : (c : tie.After-width) → c.before.args.code * c.width.result ≡ 8 ^ c.before.args.depth + start c.before.args.depth c.before.args.code
 product c = let start = c.before in ap (λ (w : ℕ). start.args.code * w) c.width.ensures ∙ interval start.args.depth start.args.code start.requires.1
 
-mul_result : tie.Need-overflow-mul-result
+mul_result : tie.Need-overflow_mul-result
 mul_result c =
     let start = c.before in
     omega (arith, product c, within start.args.depth start.args.code start.requires.1, codes_fit start.args.depth start.requires.0)

@@ -42,9 +42,9 @@ module _ (c : tie.Else-not-is_step-3) where
   are_steps : EachAxis (λ a. IsStep (steps a))
   are_steps =
       each_axis _
-      ((told start.args.dx start.fits.dx c.before.before.before.before.before.is_step.ensures).0 (c.before.before.before.before.if-not-is_step.false))
-      ((told start.args.dy start.fits.dy c.before.before.before.is_step-2.ensures).0 (c.before.before.if-not-is_step-2.false))
-      ((told start.args.dz start.fits.dz c.before.is_step-3.ensures).0 (c.if-not-is_step-3.false))
+      ((told start.args.dx start.ranges.dx c.before.before.before.before.before.is_step.ensures).0 (c.before.before.before.before.if-not-is_step.false))
+      ((told start.args.dy start.ranges.dy c.before.before.before.is_step-2.ensures).0 (c.before.before.if-not-is_step-2.false))
+      ((told start.args.dz start.ranges.dz c.before.is_step-3.ensures).0 (c.if-not-is_step-3.false))
 
   -- bits of 0
   none : (z : ℤ) → SFits w32 z → of_z w32 z ≡ of_z w32 (pos 0) → z ≡ pos 0
@@ -69,4 +69,4 @@ is_direction_spec =
     let else3 = c.before.before.before in
     let from = start else3 in
     still (steps else3)
-    (each_axis _ (none else3 from.args.dx from.fits.dx c.before.before.if-dx-ne0.false) (none else3 from.args.dy from.fits.dy c.before.if-dy-ne0.false) (none else3 from.args.dz from.fits.dz c.if-dz-ne0.false))))
+    (each_axis _ (none else3 from.args.dx from.ranges.dx c.before.before.if-dx-ne0.false) (none else3 from.args.dy from.ranges.dy c.before.if-dy-ne0.false) (none else3 from.args.dz from.ranges.dz c.if-dz-ne0.false))))

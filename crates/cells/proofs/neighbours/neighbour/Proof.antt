@@ -49,7 +49,7 @@ module _ (c : tie.After-is_direction) where
   steps = axes start.args.dx start.args.dy start.args.dz
 
   directed : (c.is_direction.result ≡ true) ↔ IsDirection steps
-  directed = signed_axes (λ x. (c.is_direction.result ≡ true) ↔ IsDirection x) _ _ _ start.fits.dx start.fits.dy start.fits.dz c.is_direction.ensures
+  directed = signed_axes (λ x. (c.is_direction.result ≡ true) ↔ IsDirection x) _ _ _ start.ranges.dx start.ranges.dy start.ranges.dz c.is_direction.ensures
 
   past : (r : Answer) → Decided alone (NoDirection steps ∷ Outside D code steps ∷ []) (λ r. (m : ℕ) × Neighbour D code steps m × (r ≡ given m)) r → NeighbourOf D code steps r
   past r x = inr (passes (deep_enough deep), inr (passes (clash is), x))
@@ -103,7 +103,7 @@ module _ (c : tie.After-step-x) where
   step_x : OneStep 0 (k of_x) (i of_x) (steps of_x 0) c.step-x.result
   step_x =
       took c.before 0 (omega arith) (i of_x) (code of_x) (ones c.before) c.step-x.result
-      (index_lt (D of_x) (code of_x) (is of_x)) (code_is (D of_x) (code of_x) (is of_x)) (omega arith) (start of_x).fits.dx c.step-x.ensures
+      (index_lt (D of_x) (code of_x) (is of_x)) (code_is (D of_x) (code of_x) (is of_x)) (omega arith) (start of_x).ranges.dx c.step-x.ensures
 
 module _ (c : tie.After-step-y) where
   abbrev at_step : tie.After-step-x
@@ -119,23 +119,23 @@ module _ (c : tie.After-step-y) where
   step_y : OneStep 1 (k of_y) past_x.0 (steps of_y 1) c.step-y.result
   step_y =
       took at_step.before 1 (omega arith) past_x.0 at_step.step-x.result (2 * ones at_step.before) c.step-y.result
-      past_x.2.root past_x.1 refl (start of_y).fits.dy c.step-y.ensures
+      past_x.2.root past_x.1 refl (start of_y).ranges.dy c.step-y.ensures
 
 module _ (c : tie.After-step-z) where
   abbrev at_step2 : tie.After-step-y
   at_step2 = c.before.before
 
-  abbrev of_z : tie.After-is_direction
-  of_z = of_y at_step2
+  abbrev along_z : tie.After-is_direction
+  along_z = of_y at_step2
 
   -- and past that along y
-  past_y : (j : ℕ) × (at_step2.step-y.result ≡ 8 ^ k of_z + j) × Came (k of_z) (only 1 (steps of_z 1)) (past_x at_step2).0 j
+  past_y : (j : ℕ) × (at_step2.step-y.result ≡ 8 ^ k along_z + j) × Came (k along_z) (only 1 (steps along_z 1)) (past_x at_step2).0 j
   past_y = (step_y at_step2).stays c.before.if-y-eq0.false
 
-  step_z : OneStep 2 (k of_z) past_y.0 (steps of_z 2) c.step-z.result
+  step_z : OneStep 2 (k along_z) past_y.0 (steps along_z 2) c.step-z.result
   step_z =
       let from = (at_step at_step2).before in
-      took from 2 (omega arith) past_y.0 at_step2.step-y.result (4 * ones from) c.step-z.result past_y.2.root past_y.1 refl (start of_z).fits.dz c.step-z.ensures
+      took from 2 (omega arith) past_y.0 at_step2.step-y.result (4 * ones from) c.step-z.result past_y.2.root past_y.1 refl (start along_z).ranges.dz c.step-z.ensures
 
 -- ---- the answers past the direction's test
 
@@ -155,7 +155,7 @@ returns_5 c =
 returns_6 : tie.Need-returns-then-z-eq0
 returns_6 c =
     let at_z = c.before.before in
-    let of = of_z at_z in
+    let of = along_z at_z in
     let (x, _, first) = past_x (at_step2 at_z) in
     let (y, _, second) = past_y at_z in
     leaves (else3 (at_step (at_step2 at_z)).before) (blocked (k of) (steps of) 2 (i of) y (omega arith) (still_z (k of) (steps of) (i of) x first y second) ((step_z at_z).leaves c.before.if-z-eq0.true)) _ c.refusal-then-z-eq0.ensures
@@ -163,7 +163,7 @@ returns_6 c =
 returns_7 : tie.Need-returns
 returns_7 c =
     let at_z = c.before.before in
-    let of = of_z at_z in
+    let of = along_z at_z in
     let (x, _, first) = past_x (at_step2 at_z) in
     let (y, _, second) = past_y at_z in
     let (z, is-z, third) = (step_z at_z).stays c.before.if-z-eq0.false in

@@ -29,12 +29,12 @@ module _ (c : tie.Joined-d-eqminus1) where
   adds a k i on is =
       ⊎_elim
       (λ w.
-      let e = same_bits d (negsuc 0) start.fits.d (record { sfits = omega arith }) w.0.taken in
-      subst (λ (z : ℤ). Adds a k z c.if-d-eqminus1.one c.if-d-eqminus1.border) (sym e) (adds_back a k c.if-d-eqminus1.one c.if-d-eqminus1.border (w.1 ∙ on.is_mask) w.2))
+      let e = same_bits d (negsuc 0) start.ranges.d (record { sfits = omega arith }) w.if-d-eqminus1.true in
+      subst (λ (z : ℤ). Adds a k z c.if-d-eqminus1.one c.if-d-eqminus1.border) (sym e) (adds_back a k c.if-d-eqminus1.one c.if-d-eqminus1.border (w.one-is ∙ on.is_mask) w.border-is))
       (λ w.
-      let e = is_forth d is c.before.if-d-eq0.false w.0.left in
-      subst (λ (z : ℤ). Adds a k z c.if-d-eqminus1.one c.if-d-eqminus1.border) (sym e) (adds_forth a k c.if-d-eqminus1.one c.if-d-eqminus1.border w.1 (w.2 ∙ on.is_mask)))
-      c.if-d-eqminus1.branch
+      let e = is_forth d is c.before.if-d-eq0.false w.if-d-eqminus1.false in
+      subst (λ (z : ℤ). Adds a k z c.if-d-eqminus1.one c.if-d-eqminus1.border) (sym e) (adds_forth a k c.if-d-eqminus1.one c.if-d-eqminus1.border w.one-is (w.border-is ∙ on.is_mask)))
+      c.if-d-eqminus1.branch-raw
 
 returns_2 : tie.Need-returns-then-code-mask
 returns_2 c a k i on is =
