@@ -27,14 +27,14 @@ const CHECK_A: usize = 126;
 const CHECK_B: usize = 127;
 
 // The check of a block: A and B.
-#[derive(Drop)]
+#[derive(Clone, Copy)]
 pub struct Sums {
     pub a: u32,
     pub b: u32,
 }
 
 // What the reader tells: its answer, and the depth read, 0 where it is refused.
-#[derive(Drop)]
+#[derive(Clone, Copy)]
 pub struct Reading {
     pub answer: Answer,
     pub depth: u32,

@@ -9,7 +9,7 @@ use crate::inner::{coordinate, is_proper, level_of, number_of, pow2, pow8, refus
 use crate::{Answer, DEEPEST};
 
 // The least coordinates of a cell and its level, beside the answer. They are 0 in a refusal.
-#[derive(Drop)]
+#[derive(Clone, Copy)]
 pub struct Corner {
     pub answer: Answer,
     pub x: u32,

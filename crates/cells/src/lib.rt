@@ -13,7 +13,7 @@ pub use neighbours::neighbour;
 pub const DEEPEST: u32 = 10;
 
 // What a call tells: the number of document 01's table (0 is success), the place and the list.
-#[derive(Drop)]
+#[derive(Clone, Copy)]
 pub struct Answer {
     pub number: u32,
     pub place: u64,

@@ -7,7 +7,7 @@ ghost use Rattle.emit.specs.Inner.{Fit, Ready, Next, fresh, Emitted, Fed, Result
 use cells::inner::pow8;
 
 // The pending black run [from, to), and how many codes stand before it.
-#[derive(Drop)]
+#[derive(Clone, Copy)]
 pub struct Runs {
     pub from: u32,
     pub to: u32,

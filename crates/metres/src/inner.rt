@@ -19,14 +19,14 @@ const RANGE: u64 = 2147483648;
 const REACH: f64 = 4294967296.0;
 
 // What a move becomes: whole voxels, or number 5 with its place.
-#[derive(Drop)]
+#[derive(Clone, Copy)]
 pub enum Taken {
     Voxels(i32, i32, i32),
     Bad(u32),
 }
 
 // What a coordinate becomes. `Bad`: a NaN, an infinity, or a number outside 32 bits.
-#[derive(Drop)]
+#[derive(Clone, Copy)]
 pub enum Coordinate {
     Voxels(i32),
     Bad,

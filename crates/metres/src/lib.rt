@@ -7,7 +7,7 @@ pub mod inner;
 pub const FINEST: u32 = 10;
 
 // A move in metres: three coordinates, and the edge number: a voxel's edge is 2^-s metres.
-#[derive(Drop)]
+#[derive(Clone, Copy)]
 pub struct Metres {
     pub x: f64,
     pub y: f64,
@@ -15,7 +15,7 @@ pub struct Metres {
     pub s: u32,
 }
 
-#[derive(Drop)]
+#[derive(Clone, Copy)]
 pub enum Move {
     Voxels(i32, i32, i32),
     Metres(Metres),

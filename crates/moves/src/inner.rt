@@ -10,7 +10,7 @@ ghost use Rattle.moves.specs.Inner.{Splits, keeps, keeps_along, leaf_keeps, reve
 use cells::inner::{coordinate, level_of, number_of, pow2};
 
 // A displacement along one axis: up - down, one of them 0.
-#[derive(Drop)]
+#[derive(Clone, Copy)]
 pub struct Parted {
     pub up: u32,
     pub down: u32,

@@ -28,6 +28,7 @@ member_at (c ∷ l) zero h = Memᴰ.head refl
 member_at (c ∷ l) (suc i) h = Memᴰ.tail (member_at l i (le_of_suc-le-suc h))
 
 pub index_of : (c : ℕ) (l : List ℕ) → Memᴰ c l → (i : ℕ) × (i < length l) × (get_or l i 0 ≡ c)
+index_of c [] x' = elim x' [ ]
 index_of c (x ∷ l) (Memᴰ.head e) = (0, suc-le-suc zero-le, sym e)
 index_of c (x ∷ l) (Memᴰ.tail m) = let (i, h, e) = index_of c l m in (suc i, suc-le-suc h, e)
 

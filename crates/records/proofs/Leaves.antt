@@ -18,12 +18,14 @@ use Rattle.records.proofs.Lists.{holds_true, holds_between, black_held, black_pa
 -- a member is proper and starts at or after the list's beginning
 pub member : (D from : ℕ) (l : List ℕ) (c : ℕ) → Ordered D from l → Memᴰ c l → (proper D c ≡ true) × (from ≤ start D c)
 unfolding Ordered
+member D from [] c _ x3 = elim x3 [ ]
 member D from (x ∷ l) c (p, f, o) (Memᴰ.head e) = (rw e p, rw e f)
 member D from (x ∷ l) c (p, f, o) (Memᴰ.tail m) = let (q, g) = member D (end D x) l c o m in (q, omega arith)
 
 -- a voxel that a member holds is black
 pub member_black : (D c : ℕ) (l : List ℕ) (v : ℕ) → Memᴰ c l → holds D c v ≡ true → black D l v ≡ true
 unfolding black
+member_black D c [] v x'' h = elim x'' [ ]
 member_black D c (x ∷ l) v (Memᴰ.head e) h = black_held D x l v (rw (← e) h)
 member_black D c (x ∷ l) v (Memᴰ.tail m) h = rw (member_black D c l v m h) (or-true (holds D x v))
 
@@ -44,6 +46,7 @@ later_apart D x l d v o m h k = let a = holds_true D x v h in let b = holds_true
 -- so in an ordered list it has only one
 pub one_leaf : (D from : ℕ) (l : List ℕ) (c d v : ℕ) → Ordered D from l → Memᴰ c l → Memᴰ d l → holds D c v ≡ true → holds D d v ≡ true → c ≡ d
 unfolding Ordered
+one_leaf D from [] c d v _ x6 _ h k = elim x6 [ ]
 one_leaf D from (x ∷ l) c d v (p, f, o) (Memᴰ.head a) (Memᴰ.head b) h k = a ∙ sym b
 one_leaf D from (x ∷ l) c d v (p, f, o) (Memᴰ.head a) (Memᴰ.tail n) h k = absurd (later_apart D x l d v o n (rw a at h) k)
 one_leaf D from (x ∷ l) c d v (p, f, o) (Memᴰ.tail m) (Memᴰ.head b) h k = absurd (later_apart D x l c v o m (rw b at k) h)

@@ -14,7 +14,7 @@ use cells::inner::{first, is_proper, pow2, refusal, success, width};
 
 // What is kept of the leaves passed: the number of the fault that ended the walk, 0 while there is none; how many leaves it passed; the last one's code;
 // the voxel number after it; how many siblings in a row end with it; the voxels of all.
-#[derive(Drop)]
+#[derive(Clone, Copy)]
 pub struct Walk {
     pub number: u32,
     pub passed: u64,
@@ -100,7 +100,7 @@ pub fn step(depth: u32, walk: Walk, code: u32) -> Walk
 // A walk along a list, to its end or its first fault.
 pub fn judge(depth: u32, list: &[u32]) -> Walk
     requires { depth ≤ deepest }
-    ensures* { do ⌜ Walked depth list.now (length list.now) result ⌝ }
+    ensures { Walked depth list.now (length list.now) result }
 {
     let mut walk = begin();
     let mut i: usize = 0;

@@ -12,7 +12,7 @@ use cells::Answer;
 use cells::inner::{first, level_of, number_of, part_at, refusal, width};
 
 // What is told of a voxel: the answer and, beside it, the level of the largest cell of one colour that holds it. The level is 0 in a refusal.
-#[derive(Drop)]
+#[derive(Clone, Copy)]
 pub struct Finding {
     pub answer: Answer,
     pub level: u32,

@@ -12,7 +12,7 @@ use cells::inner::{first, success, width};
 use cells::{Answer, neighbour};
 
 // What is told, with the index of the first leaf and the number of leaves, both 0 where the call is refused.
-#[derive(Drop)]
+#[derive(Clone, Copy)]
 struct Meeting {
     answer: Answer,
     at: usize,

@@ -14,7 +14,7 @@ use cells::inner::{pow8, refusal, success, width};
 use emit::inner::{Runs, finish, push};
 
 // A leaf of a list: the index where the list goes on after it, its least voxel number and the one after its last. Past the last leaf both are the root's end.
-#[derive(Drop)]
+#[derive(Clone, Copy)]
 pub struct Cursor {
     pub at: usize,
     pub from: u32,
@@ -22,7 +22,7 @@ pub struct Cursor {
 }
 
 // From a voxel on: black or white, and up to where this lasts.
-#[derive(Drop)]
+#[derive(Clone, Copy)]
 pub struct Side {
     pub black: bool,
     pub until: u32,

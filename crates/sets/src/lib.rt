@@ -13,7 +13,7 @@ use records::inner::judged;
 pub mod inner;
 
 // Which voxels of two lists a result has: those in either, those in both, those in the first but not in the second.
-#[derive(Drop)]
+#[derive(Clone, Copy)]
 pub enum Op {
     Join,
     Intersect,

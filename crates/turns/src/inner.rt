@@ -9,7 +9,7 @@ use emit::inner::{Runs, finish, push};
 use records::inner::slots::{Slot, Tint, cut_slot, tint_slot};
 
 // A target cell: its least voxel, the levels below it, and how many turns it comes by.
-#[derive(Drop)]
+#[derive(Clone, Copy)]
 pub struct Target {
     pub from: u32,
     pub k: u32,

@@ -30,7 +30,7 @@ pub fn judge_stored(depth: u32, bytes: &[u8], n: usize) -> Walk
 }
 
 // What is told of a file: the number of its leaves or why it is refused; its depth and its leaves' voxels, 0 where it is refused.
-#[derive(Drop)]
+#[derive(Clone, Copy)]
 pub struct Holding {
     pub answer: Answer,
     pub depth: u32,

@@ -11,7 +11,7 @@ use emit::inner::{Runs, finish, push};
 
 // How far a text is read: the place of the next byte, the byte that the last cell begins with, and the emitter's state. Where the text is wrong, the place is that
 // of the wrong byte, and the head is 0.
-#[derive(Drop)]
+#[derive(Clone, Copy)]
 pub struct Reader {
     pub at: usize,
     pub head: u8,

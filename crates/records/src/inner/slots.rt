@@ -8,14 +8,14 @@ use crate::inner::first_from;
 use cells::inner::{first, pow8, width};
 
 // The leaves from place lo up to place hi.
-#[derive(Drop)]
+#[derive(Clone, Copy)]
 pub struct Slot {
     pub lo: usize,
     pub hi: usize,
 }
 
 // What is known of a piece: none of its voxels is black, all are, or nothing.
-#[derive(Drop)]
+#[derive(Clone, Copy)]
 pub enum Tint {
     White,
     Black,

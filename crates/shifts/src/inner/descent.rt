@@ -13,7 +13,7 @@ use emit::inner::{Runs, finish, push};
 use records::inner::slots::{Slot, Tint, cell_from, tint_slot};
 
 // A target cell: its least voxel, the levels below it, and the axes on which the shift's labels of these levels are not all 0.
-#[derive(Drop)]
+#[derive(Clone, Copy)]
 pub struct Target {
     pub from: u32,
     pub k: u32,

@@ -11,6 +11,6 @@ check_spec =
     tie.close
     (tie.spec
     (λ c κs. search rules)
-    (λ c. inl (_, (c.before.if1.true, refl), c.refusal.ensures))
+    (λ c. inl (_, (c.before.if-depth-gt-DEEPEST.true, refl), c.refusal.ensures))
     (λ c κs. search rules)
-    (λ c. inr (passes (deep_enough c.before.if1.false), c.judged.ensures)))
+    (λ c. inr (passes (deep_enough c.before.if-depth-gt-DEEPEST.false), c.judged.ensures)))

@@ -11,8 +11,8 @@ use Rattle.records.proofs.Walks.{walked_refuses, walked_good, walked_passes, wal
 use Rattle.records.proofs.checks.volume.Statement.{statement}
 use Rattle.records.proofs.checks.volume.Tie as tie
 
-module _ (c : tie.After-judge) where
-  abbrev deep : tie.Else1
+module _ (c : tie.After-judge-walk) where
+  abbrev deep : tie.Else-depth-gt-DEEPEST
   deep = c.before
 
   abbrev D : ℕ
@@ -21,13 +21,13 @@ module _ (c : tie.After-judge) where
   abbrev l : List ℕ
   l = deep.before.before.args.list.now
 
-returns_3 : tie.Need-returns-3
+returns_3 : tie.Need-returns
 returns_3 c =
     let at-judge = c.before.before.before in
-    let w = at-judge.judge.ensures in
-    let z : at-judge.judge.result.number ≡ 0 = search rules in
+    let w = at-judge.judge-walk.ensures in
+    let z : at-judge.judge-walk.result.number ≡ 0 = search rules in
     inr (
-      passes (deep_enough (deep at-judge).if1.false),
+      passes (deep_enough (deep at-judge).if-depth-gt-DEEPEST.false),
       inr (
         walked_passes (D at-judge) (l at-judge) _ w 1 z,
         c.success.ensures ∙ ap given (walked_volume (D at-judge) (l at-judge) _ w z ∙ sym (list_volume (D at-judge) 0 (l at-judge) (walked_good (D at-judge) (l at-judge) _ w z).ordered)),
@@ -39,10 +39,10 @@ volume_spec =
     tie.close
     (tie.spec
     (λ c κs. search rules)
-    (λ c. inl (_, (c.before.if1.true, refl), c.refusal.ensures))
+    (λ c. inl (_, (c.before.if-depth-gt-DEEPEST.true, refl), c.refusal.ensures))
     (λ c κs. search rules) (λ c κs. search rules)
     (λ c.
     let at-judge = c.before.before in
-    inr (passes (deep_enough (deep at-judge).if1.false), inl (_, walked_refuses (D at-judge) (l at-judge) _ at-judge.judge.ensures 1 c.before.if2.true, c.refusal2.ensures)))
+    inr (passes (deep_enough (deep at-judge).if-depth-gt-DEEPEST.false), inl (_, walked_refuses (D at-judge) (l at-judge) _ at-judge.judge-walk.ensures 1 c.before.if-number-ne0.true, c.refusal-then-number-ne0.ensures)))
     (λ c. search rules) (λ c κs. search rules)
     returns_3)

@@ -9,22 +9,22 @@ use borrow.Author.Tests.{lt-ltb, le-ltb}
 use Rattle.records.proofs.inner.in_root.Statement.{statement}
 use Rattle.records.proofs.inner.in_root.Tie as tie
 
-returns : tie.Need-returns
+returns : tie.Need-returns-then-side-x
 returns c =
     let a = c.before.before.args in
-    rw (le-ltb a.x (2 ^ a.depth) (omega (arith, c.before.pow2.ensures, c.if1.true)))
+    rw (le-ltb a.x (2 ^ a.depth) (omega (arith, c.before.pow2-side.ensures, c.if-side-x.true)))
 
-returns_2 : tie.Need-returns-2
+returns_2 : tie.Need-returns-then-side-y
 returns_2 c =
     let a = c.before.before.before.args in
-    rw (le-ltb a.y (2 ^ a.depth) (omega (arith, c.before.before.pow2.ensures, c.if2.true))) (sym (and-false (ltb a.x (2 ^ a.depth))))
+    rw (le-ltb a.y (2 ^ a.depth) (omega (arith, c.before.before.pow2-side.ensures, c.if-side-y.true))) (sym (and-false (ltb a.x (2 ^ a.depth))))
 
-returns_3 : tie.Need-returns-3
+returns_3 : tie.Need-returns
 returns_3 c =
     let a = c.before.before.before.args in
-    let e = c.before.before.pow2.ensures in
-    let x = lt-ltb a.x (2 ^ a.depth) (omega (arith, e, c.before.if1.false)) in
-    let y = lt-ltb a.y (2 ^ a.depth) (omega (arith, e, c.if2.false)) in
+    let e = c.before.before.pow2-side.ensures in
+    let x = lt-ltb a.x (2 ^ a.depth) (omega (arith, e, c.before.if-side-x.false)) in
+    let y = lt-ltb a.y (2 ^ a.depth) (omega (arith, e, c.if-side-y.false)) in
     rw (x, y) (ap (ltb a.z) e)
 
 pub in_root_spec : {M : Type 1} → statement M

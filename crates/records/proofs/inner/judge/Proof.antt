@@ -9,25 +9,25 @@ use Rattle.records.proofs.Walks.{going, stays}
 use Rattle.records.proofs.inner.judge.Statement.{statement}
 use Rattle.records.proofs.inner.judge.Tie as tie
 
-abbrev invariant-loop : tie.invariant-loop
+abbrev invariant-loop : tie.invariant-loop-i
 invariant-loop depth list walk₀ i₀ walk i = (i ≤ length list) × (walk.number ≡ 0) × Faultless depth list i walk
 
-abbrev decreases-loop : tie.decreases-loop
+abbrev decreases-loop : tie.decreases-loop-i
 decreases-loop depth list walk₀ i₀ walk i = length list - i
 
 -- ---- in the loop
 
-module _ (c : tie.In-loop invariant-loop decreases-loop) where
+module _ (c : tie.In-loop-i invariant-loop decreases-loop) where
   abbrev start : tie.Start invariant-loop decreases-loop
   start = c.before.before.before.before
 
 -- a leaf more is passed
-module _ (c : tie.After-step invariant-loop decreases-loop) where
-  abbrev in_loop : tie.In-loop invariant-loop decreases-loop
+module _ (c : tie.After-step-walk invariant-loop decreases-loop) where
+  abbrev in_loop : tie.In-loop-i invariant-loop decreases-loop
   in_loop = c.before.before
 
-  more : Walked (start in_loop).args.depth (start in_loop).args.list.now (in_loop.before.loop.i + 1) c.step.result
-  more = c.step.ensures (start in_loop).args.list.now in_loop.before.loop.i in_loop.before.loop.inv.2 refl
+  more : Walked (start in_loop).args.depth (start in_loop).args.list.now (in_loop.before.loop-i.i + 1) c.step-walk.result
+  more = c.step-walk.ensures (start in_loop).args.list.now in_loop.before.loop-i.i in_loop.before.loop-i.invariant.2 refl
 
 pub judge_spec : {M : Type 1} → statement M
 judge_spec =
@@ -35,13 +35,13 @@ judge_spec =
     (tie.spec
     invariant-loop decreases-loop
     (λ c κs. search rules)
-    (λ c. (search rules, c.begin.ensures.0, c.begin.ensures.1 _ _))
+    (λ c. (search rules, c.begin-walk.ensures.0, c.begin-walk.ensures.1 _ _))
     (λ c. search rules) (λ c. search rules)
-    (λ c κs. let in_loop = c.before in record { deep = (start in_loop).requires; list = (start in_loop).args.list.now; index = in_loop.before.loop.i; kept = in_loop.before.loop.invariant.2 })
-    (λ c. stays (more c.before) c.if1.true (omega (arith, (in_loop c.before).loop-test.taken)))
+    (λ c κs. let in_loop = c.before in record { deep = (start in_loop).requires; list = (start in_loop).args.list.now; index = in_loop.before.loop-i.i; kept = in_loop.before.loop-i.invariant.2 })
+    (λ c. stays (more c.before) c.if-number-ne0.true (omega (arith, (in_loop c.before).loop-i-test.true)))
     (λ c. search rules) (λ c. search rules)
-    (λ c. let z : c.before.step.result.number ≡ 0 = search rules in (omega (arith, (in_loop c.before).loop-test.taken), z, (more c.before).kept z))
+    (λ c. let z : c.before.step-walk.result.number ≡ 0 = search rules in (omega (arith, (in_loop c.before).loop-i-test.true), z, (more c.before).kept z))
     (λ c.
     let a = c.before.before.before.before.args in
-    let o = c.before.loop in
-    subst (λ (n : ℕ). Walked a.depth a.list.now n o.walk) (omega (arith, c.loop-test.false, o.invariant.0)) (going o.invariant.1 o.invariant.2)))
+    let o = c.before.loop-i in
+    subst (λ (n : ℕ). Walked a.depth a.list.now n o.walk) (omega (arith, c.loop-i-test.false, o.invariant.0)) (going o.invariant.1 o.invariant.2)))

@@ -4,4 +4,4 @@ use Rattle.records.proofs.inner.judged.Statement.{statement}
 use Rattle.records.proofs.inner.judged.Tie as tie
 
 pub judged_spec : {M : Type 1} → statement M
-judged_spec = tie.close (tie.spec (λ c κs. search rules) (λ c κs. search rules) (λ c. c.told.ensures _ _ c.before.judge.ensures))
+judged_spec = tie.close (tie.spec (λ c κs. search rules) (λ c κs. search rules) (λ c. c.told.ensures _ _ c.before.judge-walk.ensures))

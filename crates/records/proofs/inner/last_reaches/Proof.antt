@@ -14,7 +14,7 @@ use Rattle.records.proofs.inner.last_reaches.Tie as tie
 
 -- ---- the leaf before the place
 
-module _ (c : tie.Else1) where
+module _ (c : tie.Else-at-eq0) where
   abbrev start : tie.Start
   start = c.before.before
 
@@ -22,13 +22,13 @@ module _ (c : tie.Else1) where
   leaf = get_or start.args.l.now (start.args.at - 1) 0
 
   is : proper start.args.depth leaf ≡ true
-  is = proper_at start.args.depth start.args.l.now start.pre.1 (start.args.at - 1) (omega (arith, c.if1.false, start.pre.2))
+  is = proper_at start.args.depth start.args.l.now start.requires.1 (start.args.at - 1) (omega (arith, c.if-at-eq0.false, start.requires.2))
 
 pub last_reaches_spec : {M : Type 1} → statement M
 last_reaches_spec =
     tie.close
     (tie.spec
-    (λ c. let a = c.before.before.args in sym (reaches_none a.depth a.l.now a.at a.v c.if1.true))
+    (λ c. let a = c.before.before.args in sym (reaches_none a.depth a.l.now a.at a.v c.if-at-eq0.true))
     (λ c. search rules) (λ c. search rules) (λ c. search rules)
     (λ c κs. let else1 = c.before in ((start else1).requires.0, is else1))
     (λ c κs. let else1 = c.before.before in ((start else1).requires.0, is else1))
@@ -39,4 +39,4 @@ last_reaches_spec =
     (λ c.
     let at_if1 = c.before.before.before in
     let a = (start at_if1).args in
-    ap (ltb a.v) (omega (arith, c.before.first.ensures, c.width.ensures)) ∙ sym (reaches_is a.depth a.l.now a.at a.v (omega (arith, at_if1.if1.false)))))
+    ap (ltb a.v) (omega (arith, c.before.first.ensures, c.width.ensures)) ∙ sym (reaches_is a.depth a.l.now a.at a.v (omega (arith, at_if1.if-at-eq0.false)))))

@@ -14,7 +14,7 @@ use Rattle.records.proofs.lookups.levels_behind.Tie as tie
 
 -- ---- the leaf before the place
 
-module _ (c : tie.Else1) where
+module _ (c : tie.Else-at-eq0) where
   abbrev start : tie.Start
   start = c.before.before
 
@@ -25,10 +25,10 @@ module _ (c : tie.Else1) where
   leaf = get_or start.args.list.now (start.args.at - 1) 0
 
   is : proper D leaf ≡ true
-  is = proper_at D start.args.list.now start.pre.source.ordered (start.args.at - 1) (leaf_before start.pre (omega (arith, c.if1.false)))
+  is = proper_at D start.args.list.now start.requires.source.ordered (start.args.at - 1) (leaf_before start.requires (omega (arith, c.if-at-eq0.false)))
 
 module _ (c : tie.After-width) where
-  abbrev else1 : tie.Else1
+  abbrev else1 : tie.Else-at-eq0
   else1 = c.before.before.before
 
   -- where it ends
@@ -39,13 +39,13 @@ pub levels_behind_spec : {M : Type 1} → statement M
 levels_behind_spec =
     tie.close
     (tie.spec
-    (λ c. let start = c.before.before in behind_none start.requires c.if1.true)
+    (λ c. let start = c.before.before in behind_none start.requires c.if-at-eq0.true)
     (λ c. search rules) (λ c. search rules) (λ c. search rules)
     (λ c κs. let else1 = c.before in ((start else1).requires.source.deep, is else1))
     (λ c κs. let else1 = c.before.before in ((start else1).requires.source.deep, is else1))
-    (λ c. omega (arith, past c, end_fits (D (else1 c)) (leaf (else1 c)) (start (else1 c)).pre.source.deep (is (else1 c))))
-    (λ c. omega (arith, past c, last_before (start (else1 c)).pre (omega (arith, (else1 c).if1.false))))
-    (λ c κs e. omega (arith, e, past c, last_before (start (else1 c)).pre (omega (arith, (else1 c).if1.false))))
+    (λ c. omega (arith, past c, end_fits (D (else1 c)) (leaf (else1 c)) (start (else1 c)).requires.source.deep (is (else1 c))))
+    (λ c. omega (arith, past c, last_before (start (else1 c)).requires (omega (arith, (else1 c).if-at-eq0.false))))
+    (λ c κs e. omega (arith, e, past c, last_before (start (else1 c)).requires (omega (arith, (else1 c).if-at-eq0.false))))
     (λ c.
     let at_width = c.before in
-    behind_free (start (else1 at_width)).pre (omega (arith, (else1 at_width).if1.false)) c.part_at.result (rw (past at_width) at c.part_at.ensures)))
+    behind_free (start (else1 at_width)).requires (omega (arith, (else1 at_width).if-at-eq0.false)) c.part_at.result (rw (past at_width) at c.part_at.ensures)))

@@ -21,7 +21,7 @@ use Rattle.records.proofs.lookups.look_at.Tie as tie
 
 -- ---- what the search found
 
-module _ (c : tie.After-last-reaches) where
+module _ (c : tie.After-last_reaches) where
   abbrev start : tie.Start
   start = c.before.before.before
 
@@ -35,22 +35,22 @@ module _ (c : tie.After-last-reaches) where
   v = start.args.v
 
   abbrev after : ℕ
-  after = c.before.first-from.result
+  after = c.before.first_from-after.result
 
   found_at : Starts D l (suc v) 0 (length l) after
-  found_at = starts_same (omega arith) c.before.first-from.ensures
+  found_at = starts_same (omega arith) c.before.first_from-after.ensures
 
-  colour : c.last-reaches.result ≡ black D l v
-  colour = c.last-reaches.ensures ∙ black_last D l start.pre.1.ordered v after found_at
+  colour : c.last_reaches.result ≡ black D l v
+  colour = c.last_reaches.ensures ∙ black_last D l start.requires.1.ordered v after found_at
 
 -- ---- a black voxel: the leaf before the place holds it
 
-module _ (c : tie.Then1) where
-  abbrev at_last : tie.After-last-reaches
+module _ (c : tie.Then-last_reaches) where
+  abbrev at_last : tie.After-last_reaches
   at_last = c.before
 
   reached : (0 < after at_last) × (v at_last < end (D at_last) (get_or (l at_last) (after at_last - 1) 0))
-  reached = reaches_true (D at_last) (l at_last) (after at_last) (v at_last) (sym at_last.last-reaches.ensures ∙ c.if1.true)
+  reached = reaches_true (D at_last) (l at_last) (after at_last) (v at_last) (sym at_last.last_reaches.ensures ∙ c.if-last_reaches.true)
 
   inside : after at_last - 1 < length (l at_last)
   inside = omega (arith, reached.0, (found_at at_last).high)
@@ -67,26 +67,26 @@ look_at_spec =
     (tie.spec
     (λ c. let start = c.before in omega (arith, codes_fit start.args.depth start.requires.0, start.requires.2))
     (λ c κs. let start = c.before in record { shallow = start.requires.0; ordered = start.requires.1.ordered; rising = zero-le; within = le_refl _ })
-    (λ c κs. let start = c.before.before in (start.requires.0, start.requires.1.ordered, c.first-from.ensures.high))
+    (λ c κs. let start = c.before.before in (start.requires.0, start.requires.1.ordered, c.first_from-after.ensures.high))
     (λ c. omega (arith, (reached c).0))
     (λ c. search rules)
     (λ c. inside c.before)
-    (λ c κs. let then1 = c.before in let at = at_last then1 in ((start at).pre.0, proper_at (D at) (l at) (start at).pre.1.ordered (after at - 1) (inside then1)))
+    (λ c κs. let then1 = c.before in let at = at_last then1 in ((start at).requires.0, proper_at (D at) (l at) (start at).requires.1.ordered (after at - 1) (inside then1)))
     (λ c κs. search rules)
     (λ c.
     let then1 = c.before.before.before in
     let at = at_last then1 in
     let k : ℕ = level (D at) (leaf then1) in (
       k,
-      leaf_largest (D at) (l at) (start at).pre.1 (v at) (leaf then1) (member_at (l at) (after at - 1) (inside then1)) (held then1),
-      c.found.ensures ∙ ap (seen true) c.before.level-of.ensures ∙ ap (λ (b : Bool). seen b k) (sym then1.if1.true ∙ colour at),
+      leaf_largest (D at) (l at) (start at).requires.1 (v at) (leaf then1) (member_at (l at) (after at - 1) (inside then1)) (held then1),
+      c.found.ensures ∙ ap (seen true) c.before.level_of.ensures ∙ ap (λ (b : Bool). seen b k) (sym then1.if-last_reaches.true ∙ colour at),
     ))
     (λ c κs.
     let at = c.before in
-    record { source = record { deep = (start at).requires.0; ordered = (start at).requires.1.ordered }; root = (start at).requires.2; white = sym (colour at) ∙ c.if1.false; starts = found_at at })
+    record { source = record { deep = (start at).requires.0; ordered = (start at).requires.1.ordered }; root = (start at).requires.2; white = sym (colour at) ∙ c.if-last_reaches.false; starts = found_at at })
     (λ c κs. search rules)
     (λ c.
     let at-white = c.before in
     let else1 = at-white.before in
-    let k : ℕ = at-white.white-level.result in
-    (k, at-white.white-level.ensures, c.found2.ensures ∙ ap (λ (b : Bool). seen b k) (sym else1.if1.false ∙ colour else1.before))))
+    let k : ℕ = at-white.white_level.result in
+    (k, at-white.white_level.ensures, c.found-2.ensures ∙ ap (λ (b : Bool). seen b k) (sym else1.if-last_reaches.false ∙ colour else1.before))))

@@ -20,7 +20,7 @@ use Rattle.records.proofs.lookups.lookup.Tie as tie
 
 -- ---- what `check` told
 
-module _ (c : tie.After-check) where
+module _ (c : tie.After-check-listed) where
   abbrev start : tie.Start
   start = c.before.before
 
@@ -37,19 +37,19 @@ module _ (c : tie.After-check) where
   abbrev Told : Finding → Type 0
   Told = SeenIn D (black D l) (number D start.args.x start.args.y start.args.z)
 
-module _ (c : tie.Else1) where
-  abbrev at_check : tie.After-check
+module _ (c : tie.Else-number-ne0) where
+  abbrev at_check : tie.After-check-listed
   at_check = c.before
 
-  none : at_check.check.result.number ≡ 0
+  none : at_check.check-listed.result.number ≡ 0
   none = search rules
 
-  known : Checked (D at_check) (l at_check) at_check.check.result.place
-  known = opening_known (checks (D at_check) (l at_check)) at_check.check.result at_check.check.ensures none
+  known : Checked (D at_check) (l at_check) at_check.check-listed.result.place
+  known = opening_known (checks (D at_check) (l at_check)) at_check.check-listed.result at_check.check-listed.ensures none
 
   -- what a voxel outside the root, or in it, is told
   told : {r : Finding} → Decided unseen (left at_check) (Told at_check) r → LookupOf (D at_check) (l at_check) (start at_check).args.x (start at_check).args.y (start at_check).args.z r
-  told {r} d = opening_passes (checks (D at_check) (l at_check)) at_check.check.result at_check.check.ensures unseen (left at_check) (Told at_check) r none d
+  told {r} d = opening_passes (checks (D at_check) (l at_check)) at_check.check-listed.result at_check.check-listed.ensures unseen (left at_check) (Told at_check) r none d
 
 pub lookup_spec : {M : Type 1} → statement M
 lookup_spec =
@@ -60,21 +60,21 @@ lookup_spec =
     (λ c.
     let then1 = c.before in
     let at_check = then1.before in
-    rw c.unfound.ensures (opening_refuses (checks (D at_check) (l at_check)) at_check.check.result at_check.check.ensures unseen (left at_check) (Told at_check) then1.if1.true))
+    rw c.unfound.ensures (opening_refuses (checks (D at_check) (l at_check)) at_check.check-listed.result at_check.check-listed.ensures unseen (left at_check) (Told at_check) then1.if-number-ne0.true))
     (λ c κs. (known c).shallow)
     (λ c κs. search rules)
     (λ c κs. search rules)
     (λ c.
     let then2 = c.before.before in
     let at-in-root = then2.before in
-    told at-in-root.before (inl (_, (sym at-in-root.in_root.ensures ∙ not-true _ then2.if2.true, refl), c.unfound2.ensures ∙ ap unseen c.before.refusal.ensures)))
+    told at-in-root.before (inl (_, (sym at-in-root.in_root.ensures ∙ then2.if-not-in_root.true, refl), c.unfound-then-not-in_root.ensures ∙ ap unseen c.before.refusal.ensures)))
     (λ c κs. (known c.before.before).shallow)
     (λ c κs.
     let else1 = c.before.before.before in
     let a = (start (at_check else1)).args in
-    ((known else1).shallow, (known else1).well-formed, omega (arith, c.number_of_lem.ensures, number_lt a.depth a.x a.y a.z)))
+    ((known else1).shallow, (known else1).good, omega (arith, c.number_of.ensures, number_lt a.depth a.x a.y a.z)))
     (λ c.
     let at-number = c.before in
     let else2 = at-number.before in
     let at-in-root = else2.before in
-    told at-in-root.before (inr (passes (clash (sym at-in-root.in_root.ensures ∙ not-false _ else2.if2.false)), rw at-number.number_of_lem.ensures at c.look_at.ensures))))
+    told at-in-root.before (inr (passes (clash (sym at-in-root.in_root.ensures ∙ else2.if-not-in_root.false)), rw at-number.number_of.ensures at c.look_at.ensures))))

@@ -22,7 +22,7 @@ use Rattle.records.proofs.meetings.find.Tie as tie
 
 -- ---- what `check` told
 
-module _ (c : tie.After-check) where
+module _ (c : tie.After-check-listed) where
   abbrev start : tie.Start
   start = c.before.before
 
@@ -45,23 +45,23 @@ module _ (c : tie.After-check) where
   abbrev Told : Meeting → Type 0
   Told = Met D l code d
 
-module _ (c : tie.Else1) where
-  abbrev at_check : tie.After-check
+module _ (c : tie.Else-number-ne0) where
+  abbrev at_check : tie.After-check-listed
   at_check = c.before
 
-  none : at_check.check.result.number ≡ 0
+  none : at_check.check-listed.result.number ≡ 0
   none = search rules
 
-  known : Checked (D at_check) (l at_check) at_check.check.result.place
-  known = opening_known (checks (D at_check) (l at_check)) at_check.check.result at_check.check.ensures none
+  known : Checked (D at_check) (l at_check) at_check.check-listed.result.place
+  known = opening_known (checks (D at_check) (l at_check)) at_check.check-listed.result at_check.check-listed.ensures none
 
   next : (r : Meeting) → Decided unmet (left at_check) (Told at_check) r → MeetingOf (D at_check) (l at_check) (code at_check) (d at_check) r
-  next r x = opening_passes (checks (D at_check) (l at_check)) at_check.check.result at_check.check.ensures unmet (left at_check) (Told at_check) r none x
+  next r x = opening_passes (checks (D at_check) (l at_check)) at_check.check-listed.result at_check.check-listed.ensures unmet (left at_check) (Told at_check) r none x
 
 -- ---- what `neighbour` told
 
-module _ (c : tie.After-neighbour) where
-  abbrev else1 : tie.Else1
+module _ (c : tie.After-neighbour-next) where
+  abbrev else1 : tie.Else-number-ne0
   else1 = c.before
 
   abbrev at_start : tie.Start
@@ -70,25 +70,25 @@ module _ (c : tie.After-neighbour) where
   abbrev Given : Answer → Type 0
   Given r = (m : ℕ) × Neighbour (D (at_check else1)) (code (at_check else1)) (d (at_check else1)) m × (r ≡ given m)
 
-  answered : NeighbourOf (D (at_check else1)) (code (at_check else1)) (d (at_check else1)) c.neighbour.result
-  answered = signed_axes (λ x. NeighbourOf (D (at_check else1)) (code (at_check else1)) x c.neighbour.result) _ _ _ at_start.fits.dx at_start.fits.dy at_start.fits.dz c.neighbour.ensures
+  answered : NeighbourOf (D (at_check else1)) (code (at_check else1)) (d (at_check else1)) c.neighbour-next.result
+  answered = signed_axes (λ x. NeighbourOf (D (at_check else1)) (code (at_check else1)) x c.neighbour-next.result) _ _ _ at_start.ranges.dx at_start.ranges.dy at_start.ranges.dz c.neighbour-next.ensures
 
-  decided : Decided alone (left (at_check else1)) Given c.neighbour.result
-  decided = decided_past alone (TooDeep deepest (D (at_check else1))) (left (at_check else1)) Given c.neighbour.result (passes (deep_enough (known else1).shallow)) answered
+  decided : Decided alone (left (at_check else1)) Given c.neighbour-next.result
+  decided = decided_past alone (TooDeep deepest (D (at_check else1))) (left (at_check else1)) Given c.neighbour-next.result (passes (deep_enough (known else1).shallow)) answered
 
 -- where its number is 0, its place is the neighbour, and fits a word
-module _ (c : tie.Else2) where
-  abbrev at_neighbour : tie.After-neighbour
+module _ (c : tie.Else-refused-ne0) where
+  abbrev at_neighbour : tie.After-neighbour-next
   at_neighbour = c.before
 
   abbrev m : ℕ
-  m = at_neighbour.neighbour.result.place
+  m = at_neighbour.neighbour-next.result.place
 
-  success : at_neighbour.neighbour.result.number ≡ 0
+  success : at_neighbour.neighbour-next.result.number ≡ 0
   success = search rules
 
   is_next : Neighbour (D (at_check (else1 at_neighbour))) (code (at_check (else1 at_neighbour))) (d (at_check (else1 at_neighbour))) m
-  is_next = opening_known (neighbours (D (at_check (else1 at_neighbour))) (code (at_check (else1 at_neighbour))) (d (at_check (else1 at_neighbour)))) at_neighbour.neighbour.result (decided at_neighbour) success
+  is_next = opening_known (neighbours (D (at_check (else1 at_neighbour))) (code (at_check (else1 at_neighbour))) (d (at_check (else1 at_neighbour)))) at_neighbour.neighbour-next.result (decided at_neighbour) success
 
   small : m < 2 ^ word_bits
   small = code_fits (D (at_check (else1 at_neighbour))) m (known (else1 at_neighbour)).shallow is_next.is_proper
@@ -100,16 +100,16 @@ find_spec =
     (λ c κs. search rules) (λ c κs. search rules)
     (λ c.
     let at_check = c.before.before in
-    rw c.none.ensures (opening_refuses (checks (D at_check) (l at_check)) at_check.check.result at_check.check.ensures unmet (left at_check) (Told at_check) c.before.if1.true))
+    rw c.none.ensures (opening_refuses (checks (D at_check) (l at_check)) at_check.check-listed.result at_check.check-listed.ensures unmet (left at_check) (Told at_check) c.before.if-number-ne0.true))
     (λ c κs. search rules) (λ c κs. search rules)
     (λ c.
     let at_neighbour = c.before.before in
     let checked = at_check (else1 at_neighbour) in
-    next (else1 at_neighbour) _ (rw c.none2.ensures (opening_refuses (neighbours (D checked) (code checked) (d checked)) at_neighbour.neighbour.result (decided at_neighbour) unmet [] (Told checked) c.before.if2.true)))
+    next (else1 at_neighbour) _ (rw c.none-then-refused-ne0.ensures (opening_refuses (neighbours (D checked) (code checked) (d checked)) at_neighbour.neighbour-next.result (decided at_neighbour) unmet [] (Told checked) c.before.if-refused-ne0.true)))
     (λ c. omega (arith, small c))
     (λ c κs. let k = known (else1 c.before) in (k.shallow, k.good.ordered, (is_next c).is_proper))
     (λ c.
     let else2 = c.before in
     let at_neighbour = else2.before in
     let checked = at_check (else1 at_neighbour) in
-    next (else1 at_neighbour) _ (opening_passes (neighbours (D checked) (code checked) (d checked)) at_neighbour.neighbour.result (decided at_neighbour) unmet [] (Told checked) c.part.result (success else2) (_, is_next else2, c.part.ensures.0, c.part.ensures.1))))
+    next (else1 at_neighbour) _ (opening_passes (neighbours (D checked) (code checked) (d checked)) at_neighbour.neighbour-next.result (decided at_neighbour) unmet [] (Told checked) c.part.result (success else2) (_, is_next else2, c.part.ensures.0, c.part.ensures.1))))

@@ -17,7 +17,7 @@ use Rattle.records.proofs.meetings.met.Tie as tie
 
 -- ---- what was found
 
-module _ (c : tie.After-find) where
+module _ (c : tie.After-find-found) where
   abbrev start : tie.Start
   start = c.before.before
 
@@ -28,10 +28,10 @@ module _ (c : tie.After-find) where
   d = axes start.args.dx start.args.dy start.args.dz
 
   abbrev r : Meeting
-  r = c.find.result
+  r = c.find-found.result
 
   found : MeetingOf start.args.depth l start.args.code d r
-  found = signed_axes (λ x. MeetingOf start.args.depth l start.args.code x r) _ _ _ start.fits.dx start.fits.dy start.fits.dz c.find.ensures
+  found = signed_axes (λ x. MeetingOf start.args.depth l start.args.code x r) _ _ _ start.ranges.dx start.ranges.dy start.ranges.dz c.find-found.ensures
 
   within : r.at + r.n ≤ length l
   within = within_list start.args.depth l start.args.code d r found
@@ -44,7 +44,7 @@ returns c =
       meeting = r at-find;
       found = found at-find;
       codes = ap (λ (k : ℕ). take k (drop (r at-find).at (l at-find))) many;
-      begins = ap (λ (k : ℕ). ((start at-find).args.list.ptr.0, k)) (add_comm ((r at-find).at * 4) (start at-find).args.list.ptr.1);
+      begins = ap (λ (k : ℕ). ((start at-find).args.list.ref_ptr.0, k)) (add_comm ((r at-find).at * 4) (start at-find).args.list.ref_ptr.1);
     }
 
 pub met_spec : {M : Type 1} → statement M

@@ -9,7 +9,7 @@ use Rattle.records.proofs.meetings.met_at.Tie as tie
 returns : tie.Need-returns
 returns c =
     let start = c.before.before.before in
-    (_, signed_axes (λ d. MeetingOf start.args.depth start.args.list.now start.args.code d c.before.find.result) _ _ _ start.ranges.dx start.ranges.dy start.ranges.dz c.before.find.ensures, refl)
+    (_, signed_axes (λ d. MeetingOf start.args.depth start.args.list.now start.args.code d c.before.find-found.result) _ _ _ start.ranges.dx start.ranges.dy start.ranges.dz c.before.find-found.ensures, refl)
 
 pub met_at_spec : {M : Type 1} → statement M
 met_at_spec = tie.close (tie.spec (λ c κs. search rules) returns)

@@ -19,11 +19,11 @@ use Rattle.records.proofs.meetings.part.Tie as tie
 
 -- ---- what the searches found
 
-module _ (c : tie.After-last-reaches) where
-  abbrev at_first_from2 : tie.After-first-from2
+module _ (c : tie.After-last_reaches) where
+  abbrev at_first_from2 : tie.After-first_from-end
   at_first_from2 = c.before
 
-  abbrev at_first_from : tie.After-first-from
+  abbrev at_first_from : tie.After-first_from-at
   at_first_from = at_first_from2.before.before
 
   abbrev at_start : tie.Start
@@ -36,21 +36,21 @@ module _ (c : tie.After-last-reaches) where
   l = at_start.args.list.now
 
   abbrev at : ℕ
-  at = at_first_from.first-from.result
+  at = at_first_from.first_from-at.result
 
   abbrev to : ℕ
-  to = at_first_from2.first-from2.result
+  to = at_first_from2.first_from-end.result
 
   begins : Starts D l (start D at_start.args.m) 0 (length l) at
-  begins = starts_same at_first_from.before.first.ensures at_first_from.first-from.ensures
+  begins = starts_same at_first_from.before.first-from.ensures at_first_from.first_from-at.ensures
 
   ends : Starts D l (end D at_start.args.m) at (length l) to
-  ends = starts_same (omega (arith, at_first_from.before.first.ensures, at_first_from2.before.width.ensures)) at_first_from2.first-from2.ensures
+  ends = starts_same (omega (arith, at_first_from.before.first-from.ensures, at_first_from2.before.width.ensures)) at_first_from2.first_from-end.ensures
 
-  tested : c.last-reaches.result ≡ reaches D l at (start D at_start.args.m)
-  tested = c.last-reaches.ensures ∙ ap (reaches D l at) at_first_from.before.first.ensures
+  tested : c.last_reaches.result ≡ reaches D l at (start D at_start.args.m)
+  tested = c.last_reaches.ensures ∙ ap (reaches D l at) at_first_from.before.first-from.ensures
 
-  some : c.last-reaches.result ≡ true → 0 < at
+  some : c.last_reaches.result ≡ true → 0 < at
   some e = (reaches_true D l at (start D at_start.args.m) (sym tested ∙ e)).0
 
 -- leaves at a place, told with it
@@ -67,19 +67,19 @@ part_spec =
     (λ c.
     let at_first = c.before.before in
     let start = at_first.before.before in
-    omega (arith, at_first.first.ensures, c.width.ensures, end_fits start.args.depth start.args.m start.requires.0 start.requires.2))
+    omega (arith, at_first.first-from.ensures, c.width.ensures, end_fits start.args.depth start.args.m start.requires.0 start.requires.2))
     (λ c κs.
     let start = c.before.before.before.before in
-    record { shallow = start.requires.0; ordered = start.requires.1; rising = omega (arith, c.before.first-from.ensures.high); within = omega (arith, c.before.first-from.ensures.high) })
-    (λ c κs. let at-last-reaches = c.before in let start = at-last-reaches.before.before.before.before in (start.requires.0, start.requires.1, at-last-reaches.before.first-from.ensures.high))
-    (λ c. omega (arith, some c.before c.if1.true))
+    record { shallow = start.requires.0; ordered = start.requires.1; rising = omega (arith, c.before.first_from-at.ensures.high); within = omega (arith, c.before.first_from-at.ensures.high) })
+    (λ c κs. let at-last-reaches = c.before in let start = at-last-reaches.before.before.before.before in (start.requires.0, start.requires.1, at-last-reaches.before.first_from-at.ensures.high))
+    (λ c. omega (arith, some c.before c.if-last_reaches.true))
     (λ c κs. omega (arith, (ends c.before).low))
     (λ c.
     let at-last-reaches = c.before.before in
-    let e = sym (tested at-last-reaches) ∙ c.before.if1.true in
+    let e = sym (tested at-last-reaches) ∙ c.before.if-last_reaches.true in
     told_part (D at-last-reaches) (l at-last-reaches) (at_start at-last-reaches).args.m (at at-last-reaches - 1) (to at-last-reaches - (at at-last-reaches - 1)) _ c.between.ensures (part_before (D at-last-reaches) (l at-last-reaches) (at_start at-last-reaches).requires.1 (at_start at-last-reaches).args.m (at at-last-reaches) (to at-last-reaches) (begins at-last-reaches) (ends at-last-reaches) e))
     (λ c κs. (ends c.before).low)
     (λ c.
     let at-last-reaches = c.before.before in
-    let e = sym (tested at-last-reaches) ∙ c.before.if1.false in
-    told_part (D at-last-reaches) (l at-last-reaches) (at_start at-last-reaches).args.m (at at-last-reaches) (to at-last-reaches - at at-last-reaches) _ c.between2.ensures (part_from (D at-last-reaches) (l at-last-reaches) (at_start at-last-reaches).requires.1 (at_start at-last-reaches).args.m (at at-last-reaches) (to at-last-reaches) (begins at-last-reaches) (ends at-last-reaches) e)))
+    let e = sym (tested at-last-reaches) ∙ c.before.if-last_reaches.false in
+    told_part (D at-last-reaches) (l at-last-reaches) (at_start at-last-reaches).args.m (at at-last-reaches) (to at-last-reaches - at at-last-reaches) _ c.between-2.ensures (part_from (D at-last-reaches) (l at-last-reaches) (at_start at-last-reaches).requires.1 (at_start at-last-reaches).args.m (at at-last-reaches) (to at-last-reaches) (begins at-last-reaches) (ends at-last-reaches) e)))

@@ -9,8 +9,8 @@ use Rattle.records.proofs.inner.findings.found.Tie as tie
 returns : tie.Need-returns
 returns c =
     let start = c.before.before in
-    let colour : c.before.if1.colour ≡ bit start.args.black = ⊎_elim (λ w. w.1 ∙ ap bit (sym w.0.taken)) (λ w. w.1 ∙ ap bit (sym w.0.left)) c.before.if1.branch in
-    rw (c.success.ensures, colour)
+    let colour : c.before.if-black.colour ≡ bit start.args.black = ⊎_elim (λ w. w.colour-is ∙ ap bit (sym w.if-black.true)) (λ w. w.colour-is ∙ ap bit (sym w.if-black.false)) c.before.if-black.branch-raw in
+    rw (c.success-answer.ensures, colour)
 
 pub found_spec : {M : Type 1} → statement M
 found_spec = tie.close (tie.spec (λ c κs. search rules) returns)

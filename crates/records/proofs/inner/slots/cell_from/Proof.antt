@@ -12,7 +12,7 @@ use Rattle.records.proofs.inner.slots.cell_from.Tie as tie
 returns : tie.Need-returns
 returns c = λ b y.
     let p = c.before.before.before.before.requires in
-    rw (c.first.ensures, c.before.before.pow8.ensures, slot_cell (at_cell p.0 y) p.1)
+    rw (c.first.ensures, c.before.before.pow8-w.ensures, slot_cell (at_cell p.0 y) p.1)
 
 pub cell_from_spec : {M : Type 1} → statement M
 cell_from_spec =
@@ -25,5 +25,5 @@ cell_from_spec =
     let start = c.before.before.before.before in
     let a = start.args in
     let low = within a.depth (get_or a.l.now a.s.lo 0) (slot_proper start.requires.0 start.requires.1 _ start.requires.1.0) in
-    record { fits = omega (arith, c.first.ensures, low, pow8_small a.depth start.requires.0.source.deep, div-add-mod' c.first.result c.before.before.pow8.result) })
+    record { fits = omega (arith, c.first.ensures, low, pow8_small a.depth start.requires.0.source.deep, div-add-mod' c.first.result c.before.before.pow8-w.result) })
     returns)

@@ -9,7 +9,7 @@ width_requires : tie.Need-width-requires
 width_requires c κs =
     let start = c.before.before.before.before in
     let o = start.requires.0 in
-    (o.deep, proper_at start.args.depth start.args.l.now o.ordered start.args.s.lo (omega (arith, c.before.if1.false, start.requires.1)))
+    (o.deep, proper_at start.args.depth start.args.l.now o.ordered start.args.s.lo (omega (arith, c.before.if-s-lo.false, start.requires.1)))
 
 pub tint_slot_spec : {M : Type 1} → statement M
 tint_slot_spec =
