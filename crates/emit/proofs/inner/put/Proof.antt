@@ -6,4 +6,4 @@ use Rattle.emit.proofs.inner.put.Statement.{statement}
 use Rattle.emit.proofs.inner.put.Tie as tie
 
 pub put_spec : {M : Type 1} → statement M
-put_spec = tie.close (tie.spec (λ c. search rules) (λ c. search rules) (λ c. search rules) (λ c. search rules) (λ c. sym (set_out _ _ _ c.if1.false)))
+put_spec = tie.close (tie.spec (λ c. search rules) (λ c. search rules) (λ c. search rules) (λ c. search rules) (λ c. sym (set_out _ _ _ c.if-n-out.false)))
