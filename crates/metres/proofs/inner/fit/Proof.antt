@@ -40,8 +40,8 @@ fit_spec =
     (λ c.
     let k = c.before.before.args.k in
     let h : k ≤ 2 ^ 31 = omega arith in
-    ap Voxels (to_z-of_z (fits_32 k h) ∙ wide_is k h) ∙ sym (rw (c.before.if1.true, le-leb k (2 ^ 31) h)))
-    (λ c. let h : 2 ^ 31 < c.before.before.args.k = omega arith in sym (rw (c.before.if1.true, lt-leb _ _ h)))
+    ap Voxels (to_z-of_z (fits_32 k h) ∙ wide_is k h) ∙ sym (rw (c.before.if-negative.true, le-leb k (2 ^ 31) h)))
+    (λ c. let h : 2 ^ 31 < c.before.before.args.k = omega arith in sym (rw (c.before.if-negative.true, lt-leb _ _ h)))
     (λ c. search rules)
-    (λ c. ap Voxels (to_z_pos w32 c.if3.true) ∙ sym (rw (c.before.if1.false, lt-ltb _ _ c.if3.true)))
-    (λ c. sym (rw (c.before.if1.false, le-ltb _ _ c.if3.false))))
+    (λ c. ap Voxels (to_z_pos w32 c.if-k-lt-RANGE.true) ∙ sym (rw (c.before.if-negative.false, lt-ltb _ _ c.if-k-lt-RANGE.true)))
+    (λ c. sym (rw (c.before.if-negative.false, le-ltb _ _ c.if-k-lt-RANGE.false))))

@@ -33,7 +33,7 @@ bounded n d s h S =
 -- ---- what is known of a times 2^(s+1), where it stands
 -- what owning an `f64` tells: the format holds it
 in_format : (c : tie.Start) → T (fits binary64 c.args.a)
-in_format c = subst T (sym c.well-formed.0.1) tt
+in_format c = subst T (sym c.well_formed.0.1) tt
 
 abbrev product : tie.Start → Float
 product c = mul binary64 c.args.a (of_int binary64 (pos (2 * 2 ^ c.args.s % 2 ^ 64)))
@@ -52,15 +52,15 @@ below_64 : (c : tie.Start) → half_voxels c < 2 ^ 64 * den c.args.a
 below_64 c = omega (arith, small_product c)
 
 -- the whole part that the call gave
-whole_is : (c : tie.After-truncating-f64-to-u64) → c.truncating-f64-to-u64.result ≡ half_voxels c.before.before / den c.before.before.args.a
+whole_is : (c : tie.After-truncating_f64_to_u64) → c.truncating_f64_to_u64.result ≡ half_voxels c.before.before / den c.before.before.args.a
 whole_is c =
     let start = c.before.before in
-    c.truncating-f64-to-u64.ensures ∙ cut_is (product start) (half_voxels start) (den start.args.a) (value start) (den_pos start.args.a) (below_64 start)
+    c.truncating_f64_to_u64.ensures ∙ cut_is (product start) (half_voxels start) (den start.args.a) (value start) (den_pos start.args.a) (below_64 start)
 
 returns : tie.Need-returns
 returns c =
     let start = c.before.before in
-    let w = c.truncating-f64-to-u64.result in
+    let w = c.truncating_f64_to_u64.result in
     let d = den start.args.a in
     let e : w ≡ half_voxels start / d = whole_is c in
     let sum : w * d + half_voxels start % d ≡ half_voxels start = rw e (div-add-mod' (half_voxels start) d) in

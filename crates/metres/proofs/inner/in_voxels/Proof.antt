@@ -8,11 +8,11 @@ pub in_voxels_spec : {M : Type 1} → statement M
 in_voxels_spec =
     tie.close
     (tie.spec
-    (λ c. inl (_, (c.if1.true, refl), refl))
+    (λ c. inl (_, (c.if-s-gt-FINEST.true, refl), refl))
     (λ c κs. search rules) (λ c κs. search rules) (λ c κs. search rules) (λ c κs. search rules)
     (λ c.
     let at-nearest3 = c.before in
     let at-nearest2 = at-nearest3.before in
     let at-nearest = at-nearest2.before in
     let at_if1 = at-nearest.before in
-    rw c.joined.ensures (together_taken at_if1.before.args.d at_if1.if1.false _ _ _ at-nearest.nearest.ensures at-nearest2.nearest2.ensures at-nearest3.nearest3.ensures)))
+    rw c.joined.ensures (together_taken at_if1.before.args.d at_if1.if-s-gt-FINEST.false _ _ _ at-nearest.nearest-x.ensures at-nearest2.nearest-y.ensures at-nearest3.nearest-z.ensures)))

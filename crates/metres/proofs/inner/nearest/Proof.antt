@@ -10,9 +10,9 @@ unfolding of_bits
 nearest_spec =
     tie.close
     (tie.spec
-    (λ c. not_a_number c.before.args.s c.before.args.d c.if1.true)
-    (λ c κs. (c.before.before.requires, subst T (sym c.if2.true) tt))
+    (λ c. not_a_number c.before.args.s c.before.args.d c.if-d.true)
+    (λ c κs. (c.before.before.requires, subst T (sym c.if-d-2.true) tt))
     (λ c. search rules)
-    (λ c κs. (c.before.before.before.requires, negated c.before.before.before.args.d c.if3.true))
-    (λ c. rw (← neg_neg c.before.before.before.before.args.d) c.of-size2.ensures)
-    (λ c. let start = c.before.before.before in is_zero start.args.s start.args.d c.before.before.if1.false c.before.if2.false c.if3.false))
+    (λ c κs. (c.before.before.before.requires, negated c.before.before.before.args.d c.if-d-3.true))
+    (λ c. rw (← neg_neg c.before.before.before.before.args.d) c.of_size-then-d-3.ensures)
+    (λ c. let start = c.before.before.before in is_zero start.args.s start.args.d c.before.before.if-d.false c.before.if-d-2.false c.if-d-3.false))
