@@ -6,12 +6,12 @@ use Rattle.sets.proofs.inner.combine.Statement.{statement}
 use Rattle.sets.proofs.inner.combine.Tie as tie
 
 -- there is room: what the second sweep writes
-returns_2 : tie.Need-returns-2
+returns_2 : tie.Need-returns
 returns_2 c =
     let room = c.before.before.before.before.before in
     let swept = room.before.before.before in
     let a = swept.before.before.before.before.before.args in
-    written a.depth _ _ (exactly a.op a.depth a.a.now a.b.now) swept.sweep.ensures c.success.ensures room.if1.false c.before.before.before.sweep2.ensures
+    written a.depth _ _ (exactly a.op a.depth a.a.now a.b.now) swept.sweep-need.ensures c.success.ensures room.if-out-need.false c.before.before.before.sweep-place.ensures
 
 pub combine_spec : {M : Type 1} → statement M
 combine_spec =
@@ -21,6 +21,6 @@ combine_spec =
     (λ c.
     let swept = c.before.before.before.before in
     let a = swept.before.before.before.before.before.args in
-    crowded a.depth _ _ (exactly a.op a.depth a.a.now a.b.now) swept.sweep.ensures c.refusal.ensures c.before.if1.true)
+    crowded a.depth _ _ (exactly a.op a.depth a.a.now a.b.now) swept.sweep-need.ensures c.refusal.ensures c.before.if-out-need.true)
     (λ c κs. search rules) (λ c κs. search rules) (λ c. search rules)
     returns_2)
