@@ -69,64 +69,64 @@ children_calls t = (pow8-reads.Asked, pow8-reads.Learnt, carry-label-reads.Asked
 -- ---- the cell
 
 -- where its tint is known: the span is 8 ^ k, and the shift has labels below
-module _ (t : ℕ) (q : shift-cell-lts.After-colour (cell_calls t) (shift_cell_at t) shift-cell.Post) where
+module _ (t : ℕ) (q : shift-cell-lts.After-colour-tint (cell_calls t) (shift_cell_at t) shift-cell.Post) where
   abbrev start : shift-cell-lts.Start (cell_calls t) (shift_cell_at t) shift-cell.Post
   start = q.before.before.before.before.before
 
-  abbrev aimed : Aimed start.args.depth start.args.l.now start.args.w start.args.c start.args.t5 start.args.r
-  aimed = start.pre.1
+  abbrev aimed : Aimed start.args.depth start.args.l.now start.args.w start.args.c start.args.t start.args.r
+  aimed = start.requires.1
 
-  abbrev wide : q.before.pow8.result ≡ 8 ^ start.args.c.k
-  wide = q.before.pow8.ensures
+  abbrev wide : q.before.pow8-span.result ≡ 8 ^ start.args.c.k
+  wide = q.before.pow8-span.ensures
 
-  piece : Next start.args.depth start.args.r start.args.c.from (start.args.c.from + q.before.pow8.result)
+  piece : Next start.args.depth start.args.r start.args.c.from (start.args.c.from + q.before.pow8-span.result)
   piece = record { deep = aimed.source.deep; ready = aimed.ready; some = omega (arith, wide, pow8_pos start.args.c.k); root = omega (arith, wide, aimed.root) }
 
   parent : 1 ≤ start.args.c.k
-  parent = aimed_parent aimed q.before.before.if1.left
+  parent = aimed_parent aimed q.before.before.if-f-eq0.false
 
   level : suc (start.args.c.k - 1) ≡ start.args.c.k
   level = omega (arith, parent)
 
 -- ---- the children
 
-abbrev shift_children_Inv_loop : shift-children-lts.invariant-loop
+abbrev shift_children_Inv_loop : shift-children-lts.invariant-loop-m
 shift_children_Inv_loop depth l w out₀ p k f span h s₀ v₀ m₀ out s v m = Children depth (shifted depth l w) v₀ out₀ s₀ span out s v m
 
-abbrev shift_children_μ_loop : shift-children-lts.decreases-loop
+abbrev shift_children_μ_loop : shift-children-lts.decreases-loop-m
 shift_children_μ_loop depth l w out₀ p k f span h s₀ v₀ m₀ out s v m = 8 - m
 
-module _ (t : ℕ) (p : shift-children-lts.In-loop (children_calls t) (shift_children_at t) shift-children.Post shift_children_Inv_loop shift_children_μ_loop) where
+module _ (t : ℕ) (p : shift-children-lts.In-loop-m (children_calls t) (shift_children_at t) shift-children.Post shift_children_Inv_loop shift_children_μ_loop) where
   abbrev entry : shift-children-lts.Start (children_calls t) (shift_children_at t) shift-children.Post shift_children_Inv_loop shift_children_μ_loop
   entry = p.before.before.before.before.before
 
-  abbrev divides : Divides entry.args.depth entry.args.l.now entry.args.w entry.args.c entry.args.t5 entry.args.r
-  divides = entry.pre.1
+  abbrev divides : Divides entry.args.depth entry.args.l.now entry.args.w entry.args.c entry.args.p entry.args.r
+  divides = entry.requires.1
 
   abbrev h : ℕ
   h = entry.args.w / 2 ^ (3 * entry.args.c.k) % 8
 
-  abbrev turn : shift-children-lts.At-loop·own (children_calls t) (shift_children_at t) shift-children.Post shift_children_Inv_loop shift_children_μ_loop p.before.before
-  turn = p.before.loop
+  abbrev turn : shift-children-lts.Own-At-loop-m (children_calls t) (shift_children_at t) shift-children.Post shift_children_Inv_loop shift_children_μ_loop p.before.before
+  turn = p.before.loop-m
 
   abbrev Child : List Slot → Type 0
   Child x = Aimed entry.args.depth entry.args.l.now entry.args.w (record { from = turn.v; k = entry.args.c.k; axes = entry.args.c.axes }) x turn.s
 
   -- child m, with the slots that the labels pick
-  child : (x : List Slot) → ((q : ℕ) → q < 8 → Uses entry.args.c.axes q → slot_at x q ≡ part_at entry.args.t5 (carry_label h turn.m q) (sum_label h turn.m q)) → Child x
+  child : (x : List Slot) → ((q : ℕ) → q < 8 → Uses entry.args.c.axes q → slot_at x q ≡ part_at entry.args.p (carry_label h turn.m q) (sum_label h turn.m q)) → Child x
   child x pick =
-      let place = turn.inv.place ∙ ap (λ (y : ℕ). entry.args.c.from + turn.m * y) p.before.before.pow8.ensures in
-      child_aimed divides h turn.m turn.v (ap (λ (y : ℕ). entry.args.w / y % 8) (pow8_bits entry.args.c.k)) p.loop-test.taken place pick turn.inv.fed.ready
+      let place = turn.invariant.place ∙ ap (λ (y : ℕ). entry.args.c.from + turn.m * y) p.before.before.pow8-span.ensures in
+      child_aimed divides h turn.m turn.v (ap (λ (y : ℕ). entry.args.w / y % 8) (pow8_bits entry.args.c.k)) p.loop-m-test.true place pick turn.invariant.fed.ready
 
   -- where no axis can carry, slot 0 is all that is needed
-  lone : entry.args.c.axes ≡ 0 → (a b : ℕ) → a ≡ carry_label h turn.m 0 → b ≡ sum_label h turn.m 0 → Child (eight_of (part_at entry.args.t5 a b))
+  lone : entry.args.c.axes ≡ 0 → (a b : ℕ) → a ≡ carry_label h turn.m 0 → b ≡ sum_label h turn.m 0 → Child (eight_of (part_at entry.args.p a b))
   lone none a b e g = child (eight_of _) (λ q lt u. rw (none_used q lt (rw none at u), e, g))
 
   -- child m ends within the root
-  within_root : turn.v + p.before.before.pow8.result ≤ 8 ^ entry.args.depth
+  within_root : turn.v + p.before.before.pow8-span.result ≤ 8 ^ entry.args.depth
   within_root =
-      let r = p.before.before.pow8 in
-      omega (arith, child_within turn.m r.result p.loop-test.taken, pow8_suc entry.args.c.k, r.ensures, turn.inv.place, divides.root)
+      let r = p.before.before.pow8-span in
+      omega (arith, child_within turn.m r.result p.loop-m-test.true, pow8_suc entry.args.c.k, r.ensures, turn.invariant.place, divides.root)
 
 pub +shift_cell_shift_children_spec : {M : Type 1} → statement M
 +shift_cell_shift_children_spec =
@@ -136,35 +136,35 @@ pub +shift_cell_shift_children_spec : {M : Type 1} → statement M
     (λ c. search rules)
     (λ c κs. aimed_copying c.before.before.before.before.before.requires.1)
     (λ c. search rules)
-    (λ c. let at_if1 = c.before.before.before.before.before in let x = at_if1.before.before.before.requires.1 in c.before.before.copy-slot.ensures _ _ (x.slots 0 (omega arith) (uses_none _)) (aimed_copies x at_if1.if1.true))
+    (λ c. let at_if1 = c.before.before.before.before.before in let x = at_if1.before.before.before.requires.1 in c.before.before.copy_slot.ensures _ _ (x.slots 0 (omega arith) (uses_none _)) (aimed_copies x at_if1.if-f-eq0.true))
     (λ c κs. search rules)
     (λ c κs. let x = c.before.before.before.before.requires.1 in (omega (arith, x.axes, need_lt c.before.before.before.before.args.c.k c.before.before.before.before.args.w), (_, aimed_slots x)))
     (λ c. search rules) (λ c. search rules)
-    (λ c. let p = piece t c.before.before in record { fits = omega (arith, p.root, pow8_small _ p.deep) })
-    (λ c κs. piece t c.before.before.before)
-    (λ c. search rules) (λ c. parent t c.before.before)
-    (λ c κs. let at_start = c.before.before in (omega (arith, (aimed t at_start).axes, need_lt (start t at_start).args.c.k (start t at_start).args.w), aimed_above (aimed t at_start) _ (level t at_start)))
-    (λ c. parent t c.before.before.before) (λ c. parent t c.before.before.before)
+    (λ c. let p = piece t c.before in record { fits = omega (arith, p.root, pow8_small _ p.deep) })
+    (λ c κs. piece t c.before.before)
+    (λ c. search rules) (λ c. parent t c.before)
+    (λ c κs. let at_start = c.before in (omega (arith, (aimed t at_start).axes, need_lt (start t at_start).args.c.k (start t at_start).args.w), aimed_above (aimed t at_start) _ (level t at_start)))
+    (λ c. parent t c.before.before) (λ c. parent t c.before.before)
     (λ c κs. search rules)
-    (λ c κs. let axes = c.before in let split = axes.before in let at-colour = split.before.before.before in (omega (arith, (start t at-colour).requires.0, parent t at-colour), aimed_divides (aimed t at-colour) _ (level t at-colour) axes.axes.result axes.axes.ensures split.split.result split.split.ensures))
+    (λ c κs. let axes = c.before in let split = axes.before in let at-colour = split.before.before in (omega (arith, (start t at-colour).requires.0, parent t at-colour), aimed_divides (aimed t at-colour) _ (level t at-colour) axes.axes.result axes.axes.ensures split.split-p.result split.split-p.ensures))
     (λ c.
-    let at-colour = c.before.before in
-    fed_white _ _ _ _ _ _ (omega arith) (aimed t at-colour).root (aimed_colour (aimed t at-colour) _ (wide t at-colour) at-colour.colour.ensures false c.enum_told.given.1) (aimed t at-colour).ready)
+    let at-colour = c.before in
+    fed_white _ _ _ _ _ _ (omega arith) (aimed t at-colour).root (aimed_colour (aimed t at-colour) _ (wide t at-colour) at-colour.colour-tint.ensures false c.in-White.is) (aimed t at-colour).ready)
     (λ c. search rules)
     (λ c.
     let told = c.before.before.before.before in
-    let at-colour = told.before.before in
+    let at-colour = told.before in
     fed_to _ _ (ap (λ (y : ℕ). (start t at-colour).args.c.from + y) (wide t at-colour))
-    (c.before.before.push.ensures _ (λ v lo hi. aimed_colour (aimed t at-colour) _ (wide t at-colour) at-colour.colour.ensures true told.enum-told2.given.1 v lo (omega (arith, wide t at-colour)))))
+    (c.before.before.push.ensures _ (λ v lo hi. aimed_colour (aimed t at-colour) _ (wide t at-colour) at-colour.colour-tint.ensures true told.in-Black.is v lo (omega (arith, wide t at-colour)))))
     (λ c. search rules)
-    (λ c. let at_start = c.before.before.before.before.before.before.before.before in fed_to _ _ (ap (λ (n : ℕ). (start t at_start).args.c.from + 8 ^ n) (level t at_start)) c.before.before.shift-children.ensures))
+    (λ c. let at_start = c.before.before.before.before.before.before.before in fed_to _ _ (ap (λ (n : ℕ). (start t at_start).args.c.from + 8 ^ n) (level t at_start)) c.before.before.shift_children.ensures))
     (λ t.
     shift-children-lts.spec (children_calls t) (shift_children_at t) shift-children.Post shift_children_Inv_loop shift_children_μ_loop
     (λ c κs. omega (arith, c.before.before.requires.1.level, c.before.before.requires.1.source.deep))
     (λ c. search rules) (λ c. search rules)
     (λ c. children_none c.before.before.before.requires.1.ready)
     (λ c κs. (omega arith, omega arith, omega arith)) (λ c. search rules) (λ c κs. (omega arith, omega arith, omega arith)) (λ c. search rules) (λ c. search rules) (λ c. search rules) (λ c. search rules) (λ c. search rules)
-    (λ c κs. let sum = c.before.before in let carry = sum.before in aimed_copying (lone t carry.before.before carry.before.if1.true _ _ carry.carry-label.ensures.0 sum.sum-label.ensures.0))
+    (λ c κs. let sum = c.before.before in let carry = sum.before in aimed_copying (lone t carry.before.before carry.before.if-f-eq0.true _ _ carry.carry_label-from.ensures.0 sum.sum_label-label.ensures.0))
     (λ c κs. (omega arith, omega arith))
     (λ c κs. let start = c.before.before.before in (omega (arith, (entry t start).requires.0), child t start _ (λ q g u. c.before.pick.ensures q g)))
     (λ c. record { fits = omega (arith, within_root t c.before, pow8_small (entry t c.before).args.depth (divides t c.before).source.deep) })
@@ -173,11 +173,11 @@ pub +shift_cell_shift_children_spec : {M : Type 1} → statement M
     let at_test = c.before in
     ⊎_elim
     (λ w.
-    let x = lone t at_test w.0.taken _ _ w.1.ensures.0 w.2.ensures.0 in
-    rw (w.8, w.9) (children_more (turn t at_test).inv at_test.loop-test.true at_test.before.before.pow8.ensures w.5.kept.1.1.1.1.1.0 (w.5.ensures _ _ (x.slots 0 (omega arith) (uses_none _)) (aimed_copies x w.0.taken))))
-    (λ w. rw (w.6, w.7) (children_more (turn t at_test).inv at_test.loop-test.true at_test.before.before.pow8.ensures w.3.kept.1.1.1.1.1.1.0 w.3.ensures))
-    c.if1.branch)
-    (λ c. c.before.loop.invariant.size)
+    let x = lone t at_test w.if-f-eq0.true _ _ w.carry_label-from.ensures.0 w.sum_label-label.ensures.0 in
+    rw (w.out-is, w.s-is) (children_more (turn t at_test).invariant at_test.loop-m-test.true at_test.before.before.pow8-span.ensures w.copy_slot-s.auto.out (w.copy_slot-s.ensures _ _ (x.slots 0 (omega arith) (uses_none _)) (aimed_copies x w.if-f-eq0.true))))
+    (λ w. rw (w.out-is, w.s-is) (children_more (turn t at_test).invariant at_test.loop-m-test.true at_test.before.before.pow8-span.ensures w.shift_cell-s.auto.out w.shift_cell-s.ensures))
+    c.if-f-eq0.branch-raw)
+    (λ c. c.before.loop-m.invariant.size)
     (λ c.
     let k = c.before.before.before.before.before.args.c.k in
-    children_all c.before.loop.invariant (8 ^ suc k) c.loop-test.false (omega (arith, pow8_suc k, c.before.before.pow8.ensures))))
+    children_all c.before.loop-m.invariant (8 ^ suc k) c.loop-m-test.false (omega (arith, pow8_suc k, c.before.before.pow8-span.ensures))))

@@ -13,4 +13,4 @@ shift_list_spec =
     (λ c κs. search rules)
     (λ c κs. root_aimed c.before.before.before.before.requires c.before.axes.ensures)
     (λ c κs. search rules) (λ c. search rules)
-    (λ c. c.before.before.finish.ensures _ _ (fed_all _ _ _ _ _ (fed_to _ _ (zero-add _) c.before.before.before.before.before.before.shift-cell.ensures))))
+    (λ c. c.before.before.finish.ensures _ _ (fed_all _ _ _ _ _ (fed_to _ _ (zero-add _) c.before.before.before.before.before.before.shift_cell-s.ensures))))

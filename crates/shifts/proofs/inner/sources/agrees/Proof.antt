@@ -8,7 +8,7 @@ agrees_spec =
     tie.close
     (tie.spec
     (λ c κs. search rules)
-    (λ c κs. let (n, x) = c.before.before.before.requires.2 (c.before.within.ensures.0 c.if1.true) in (x.source, x.part.leaves.within))
+    (λ c κs. let (n, x) = c.before.before.before.requires.2 (c.before.within.ensures.0 c.if-within.true) in (x.source, x.part.leaves.within))
     (λ c κs. search rules)
-    (λ c e u. rw (← c.same.ensures e) c.before.tint-slot.ensures)
-    (λ c e u. absurd (c.before.within.ensures.1 c.if1.false u)))
+    (λ c e u. rw (← c.same.ensures e) c.before.tint_slot.ensures)
+    (λ c e u. absurd (c.before.within.ensures.1 c.if-within.false u)))

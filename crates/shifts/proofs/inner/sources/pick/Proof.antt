@@ -15,10 +15,10 @@ use Rattle.shifts.proofs.inner.sources.pick.Tie as tie
 abbrev Picked : List (List Slot) → ℕ → ℕ → ℕ → Slot → Type 0
 Picked p h m q s = s ≡ part_at p (carry_label h m q) (sum_label h m q)
 
-abbrev invariant-loop : tie.invariant-loop
+abbrev invariant-loop : tie.invariant-loop-q
 invariant-loop h m p r₀ q₀ r q = Prefix (Picked p h m) (record { lo = 0; hi = 0 }) 8 r q
 
-abbrev decreases-loop : tie.decreases-loop
+abbrev decreases-loop : tie.decreases-loop-q
 decreases-loop h m p r₀ q₀ r q = 8 - q
 
 pub pick_spec : {M : Type 1} → statement M
@@ -32,5 +32,5 @@ pick_spec =
     (λ c.
     let picked = c.before in
     let head = picked.before.before.before in
-    prefix_more _ _ 8 head.loop.r head.loop.q _ (omega (arith, picked.before.before.loop-test.true)) (rw (picked.before.carry-label.ensures.0, picked.sum-label.ensures.0)) head.loop.invariant)
-    (λ c q h. c.before.loop.invariant.each q (omega (arith, c.loop-test.false))))
+    prefix_more _ _ 8 head.loop-q.r head.loop-q.q _ (omega (arith, picked.before.before.loop-q-test.true)) (rw (picked.before.carry_label-from.ensures.0, picked.sum_label-label.ensures.0)) head.loop-q.invariant)
+    (λ c q h. c.before.loop-q.invariant.each q (omega (arith, c.loop-q-test.false))))
