@@ -19,7 +19,7 @@ use Rattle.turns.proofs.turn_list.Tie as tie
 
 -- ---- what `check` told
 
-module _ (c : tie.After-check) where
+module _ (c : tie.After-check-listed) where
   abbrev start : tie.Start
   start = c.before.before.before
 
@@ -41,44 +41,44 @@ module _ (c : tie.After-check) where
 
 -- ---- a good list
 
-module _ (c : tie.Else1) where
-  abbrev at_check : tie.After-check
+module _ (c : tie.Else-number-ne0) where
+  abbrev at_check : tie.After-check-listed
   at_check = c.before
 
-  none : at_check.check.result.number ≡ 0
+  none : at_check.check-listed.result.number ≡ 0
   none = search rules
 
-  good : Checked (D at_check) (l at_check) at_check.check.result.place
-  good = opening_known (checks (D at_check) (l at_check)) at_check.check.result at_check.check.ensures none
+  good : Checked (D at_check) (l at_check) at_check.check-listed.result.place
+  good = opening_known (checks (D at_check) (l at_check)) at_check.check-listed.result at_check.check-listed.ensures none
 
   -- then the turn number decides, and then the room
   next : {t : Answer × List ℕ} → Decided (keeping (o at_check)) (NoTurn (n at_check) ∷ []) (Told at_check) t → TurnOf (D at_check) (l at_check) (n at_check) (o at_check) t.0 t.1
-  next d = opening_passes (checks (D at_check) (l at_check)) at_check.check.result at_check.check.ensures (keeping (o at_check)) (NoTurn (n at_check) ∷ []) (Told at_check) _ none d
+  next d = opening_passes (checks (D at_check) (l at_check)) at_check.check-listed.result at_check.check-listed.ensures (keeping (o at_check)) (NoTurn (n at_check) ∷ []) (Told at_check) _ none d
 
-module _ (c : tie.Else2) where
+module _ (c : tie.Else-turns-gt-MOST_TURNS) where
   told : {t : Answer × List ℕ} → Told (at_check c.before) t → TurnOf (D (at_check c.before)) (l (at_check c.before)) (n (at_check c.before)) (o (at_check c.before)) t.0 t.1
-  told w = next c.before (inr (passes (deep_enough c.if2.false), w))
+  told w = next c.before (inr (passes (deep_enough c.if-turns-gt-MOST_TURNS.false), w))
 
 -- ---- the needs
 
-returns_2 : tie.Need-returns-2
-returns_2 c = let at-if2 = c.before in next at-if2.before (inl (_, (at-if2.if2.true, refl), ap (keeping (o (at_check at-if2.before))) c.refusal.ensures))
+returns_2 : tie.Need-returns-then-turns-gt-MOST_TURNS
+returns_2 c = let at-if2 = c.before in next at-if2.before (inl (_, (at-if2.if-turns-gt-MOST_TURNS.true, refl), ap (keeping (o (at_check at-if2.before))) c.refusal.ensures))
 
 -- no room: nothing was written
-returns_3 : tie.Need-returns-3
+returns_3 : tie.Need-returns-then-out-need
 returns_3 c =
     let at-if3 = c.before in
     let else2 = at-if3.before in
     let k = good else2.before in
-    told else2 (turn_crowded _ _ _ k.good k.is_length at-if3.if3.true c.refusal2.ensures refl)
+    told else2 (turn_crowded _ _ _ k.good k.is_length at-if3.if-out-need.true c.refusal-then-out-need.ensures refl)
 
-returns_4 : tie.Need-returns-4
+returns_4 : tie.Need-returns
 returns_4 c =
     let at-turn-root = c.before.before.before in
     let else3 = at-turn-root.before.before in
     let else2 = else3.before in
     let k = good else2.before in
-    told else2 (turn_written _ _ _ k.good c.success.ensures (omega (arith, k.is_length, else3.if3.false)) at-turn-root.turn-root.ensures)
+    told else2 (turn_written _ _ _ k.good c.success.ensures (omega (arith, k.is_length, else3.if-out-need.false)) at-turn-root.turn_root.ensures)
 
 pub turn_list_spec : {M : Type 1} → statement M
 turn_list_spec =
@@ -87,7 +87,7 @@ turn_list_spec =
     (λ c κs. search rules)
     (λ c.
     let at_check = c.before in
-    opening_refuses (checks (D at_check) (l at_check)) at_check.check.result at_check.check.ensures (keeping (o at_check)) (NoTurn (n at_check) ∷ []) (Told at_check) c.if1.true)
+    opening_refuses (checks (D at_check) (l at_check)) at_check.check-listed.result at_check.check-listed.ensures (keeping (o at_check)) (NoTurn (n at_check) ∷ []) (Told at_check) c.if-number-ne0.true)
     (λ c κs. search rules)
     returns_2
     (λ c κs. search rules)

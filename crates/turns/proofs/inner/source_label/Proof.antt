@@ -25,22 +25,22 @@ thrice = same_labels (λ m. label_of (1 - m / 2 % 2) (m % 2) (m / 4)) (source_la
 
 -- ---- the needs
 
-returns : tie.Need-returns
-returns c = let start = c.before.before in label_told start.args.turns start.args.m 1 c.before.if1.true start.requires (c.label.ensures ∙ once start.args.m start.requires)
+returns : tie.Need-returns-then-n-eq1
+returns c = let start = c.before.before in label_told start.args.turns start.args.m 1 c.before.if-n-eq1.true start.requires (c.label.ensures ∙ once start.args.m start.requires)
 
-returns_2 : tie.Need-returns-2
-returns_2 c = let start = c.before.before.before in label_told start.args.turns start.args.m 2 c.before.if2.true start.requires (c.label2.ensures ∙ twice start.args.m start.requires)
+returns_2 : tie.Need-returns-then-n-eq2
+returns_2 c = let start = c.before.before.before in label_told start.args.turns start.args.m 2 c.before.if-n-eq2.true start.requires (c.label-then-n-eq2.ensures ∙ twice start.args.m start.requires)
 
-returns_3 : tie.Need-returns-3
-returns_3 c = let start = c.before.before.before.before in label_told start.args.turns start.args.m 3 c.before.if3.true start.requires (c.label3.ensures ∙ thrice start.args.m start.requires)
+returns_3 : tie.Need-returns-then-n-eq3
+returns_3 c = let start = c.before.before.before.before in label_told start.args.turns start.args.m 3 c.before.if-n-eq3.true start.requires (c.label-then-n-eq3.ensures ∙ thrice start.args.m start.requires)
 
 -- no turn
-returns_4 : tie.Need-returns-4
+returns_4 : tie.Need-returns
 unfolding source_label
 returns_4 c =
     let else1 = c.before.before in
     let start = else1.before in
-    let none : start.args.turns % 4 ≡ 0 = omega (arith, else1.if1.false, c.before.if2.false, c.if3.false) in
+    let none : start.args.turns % 4 ≡ 0 = omega (arith, else1.if-n-eq1.false, c.before.if-n-eq2.false, c.if-n-eq3.false) in
     label_told start.args.turns start.args.m 0 none start.requires refl
 
 pub source_label_spec : {M : Type 1} → statement M

@@ -12,4 +12,4 @@ turn_root_spec =
     (tie.spec
     (λ c κs. root_turning c.before.before.before.requires)
     (λ c κs. search rules) (λ c. search rules)
-    (λ c. c.before.before.finish.ensures _ _ (fed_all _ _ _ _ _ (fed_to _ _ (zero-add _) c.before.before.before.before.before.before.turn-cell.ensures))))
+    (λ c. c.before.before.finish.ensures _ _ (fed_all _ _ _ _ _ (fed_to _ _ (zero-add _) c.before.before.before.before.before.before.turn_cell-s.ensures))))
