@@ -17,34 +17,34 @@ use Rattle.moves.proofs.move_list.Tie as tie
 
 -- ---- past the tests of the list
 
-module _ (c : tie.Else1) where
+module _ (c : tie.Else-number-ne0) where
   abbrev start : tie.Start
   start = c.before.before.before.before
 
-  none : c.before.check.result.number ≡ 0
+  none : c.before.check-listed.result.number ≡ 0
   none = search rules
 
-  pass : Checked start.args.depth start.args.list.now c.before.check.result.place
-  pass = opening_known (checks start.args.depth start.args.list.now) c.before.check.result c.before.check.ensures none
+  pass : Checked start.args.depth start.args.list.now c.before.check-listed.result.place
+  pass = opening_known (checks start.args.depth start.args.list.now) c.before.check-listed.result c.before.check-listed.ensures none
 
   next : (t : Answer × List ℕ) {m : Move} → start.args.m ≡ m → Decided (keeping start.args.out.now) (move_tests m) (ByVoxels m (λ x. ShiftOf start.args.depth start.args.list.now x start.args.out.now)) t
       → MoveOf start.args.depth start.args.list.now start.args.m start.args.out.now t.0 t.1
   next t {m} is d =
       let a = start.args in
       subst (λ (n : Move). MoveOf a.depth a.list.now n a.out.now t.0 t.1) (sym is)
-      (opening_passes (checks a.depth a.list.now) c.before.check.result c.before.check.ensures (keeping a.out.now) (move_tests m) (ByVoxels m (λ x. ShiftOf a.depth a.list.now x a.out.now)) t none d)
+      (opening_passes (checks a.depth a.list.now) c.before.check-listed.result c.before.check-listed.ensures (keeping a.out.now) (move_tests m) (ByVoxels m (λ x. ShiftOf a.depth a.list.now x a.out.now)) t none d)
 
 -- ---- the needs
 
 -- whole voxels: no test of their own
-returns_2 : tie.Need-returns-2
+returns_2 : tie.Need-returns-in-Voxels
 returns_2 c =
-    let w = c.before.before.move-whole in
-    let at-m = c.before.before.before.before.before in
-    let a = (start at-m.before.before).args in
-    let (f, (g, (h, _))) = c.before.before.before.before.known-told.given in
-    let left : Answer × List ℕ = (w.result, w.new.1.1.1.1.1.0) in
-    next at-m.before.before left at-m.m.given.1 (
+    let w = c.before.before.move_whole in
+    let at_voxels = c.before.before.before.before in
+    let a = (start at_voxels.before).args in
+    let (f, (g, (h, _))) = at_voxels.in-Voxels.known_told-1-own.given in
+    let left : Answer × List ℕ = (w.result, w.new.out) in
+    next at_voxels.before left at_voxels.in-Voxels.is (
       _,
       _,
       _,
@@ -60,15 +60,15 @@ move_list_spec =
     (λ c.
     let at_check = c.before in
     let a = at_check.before.before.before.args in
-    opening_refuses (checks a.depth a.list.now) at_check.check.result at_check.check.ensures (keeping a.out.now) (move_tests a.m) (ByVoxels a.m (λ x. ShiftOf a.depth a.list.now x a.out.now)) c.if1.true)
+    opening_refuses (checks a.depth a.list.now) at_check.check-listed.result at_check.check-listed.ensures (keeping a.out.now) (move_tests a.m) (ByVoxels a.m (λ x. ShiftOf a.depth a.list.now x a.out.now)) c.if-number-ne0.true)
     (λ c. search rules)
-    (λ c κs. let k = pass c.before.before.before.before in (k.shallow, k.good.ordered))
+    (λ c κs. let k = pass c.before.before in (k.shallow, k.good.ordered))
     (λ c. search rules)
-    (λ c κs. let k = pass c.before.before.before.before in (k.shallow, k.good.ordered))
+    (λ c κs. let k = pass c.before.before in (k.shallow, k.good.ordered))
     (λ c. search rules)
     returns_2
     (λ c. search rules)
     (λ c.
-    let w = c.before.before.move-metres in
-    let at-m2 = c.before.before.before.before.before in
-    next at-m2.before.before (w.result, w.new.1.1.1.0) at-m2.m2.given.1 w.ensures))
+    let w = c.before.before.move_metres in
+    let at_metres = c.before.before.before.before in
+    next at_metres.before (w.result, w.new.out) at_metres.in-Metres.is w.ensures))

@@ -29,7 +29,7 @@ use Rattle.moves.proofs.move_whole.Tie as tie
 
 -- ---- acceptance
 
-module _ (c : tie.After-first-stray) where
+module _ (c : tie.After-first_stray-i) where
   abbrev start : tie.Start
   start = c.before.before.before.before.before.before
 
@@ -38,17 +38,17 @@ module _ (c : tie.After-first-stray) where
   d = axes start.args.dx start.args.dy start.args.dz
 
   abbrev p : ℕ → Parted
-  p = axes c.before.before.before.part.result c.before.before.part2.result c.before.part3.result
+  p = axes c.before.before.before.part-x.result c.before.before.part-y.result c.before.part-z.result
 
   -- the machine reads each displacement back from its bits
   split : EachAxis (λ a. Splits (d a) (p a))
   split =
       each_axis (λ a. Splits (d a) (p a))
-      (subst (λ (z : ℤ). Splits z (p 0)) (to_z-of_z w32 start.args.dx start.fits.dx) c.before.before.before.part.ensures)
-      (subst (λ (z : ℤ). Splits z (p 1)) (to_z-of_z w32 start.args.dy start.fits.dy) c.before.before.part2.ensures)
-      (subst (λ (z : ℤ). Splits z (p 2)) (to_z-of_z w32 start.args.dz start.fits.dz) c.before.part3.ensures)
+      (subst (λ (z : ℤ). Splits z (p 0)) (to_z-of_z w32 start.args.dx start.ranges.dx) c.before.before.before.part-x.ensures)
+      (subst (λ (z : ℤ). Splits z (p 1)) (to_z-of_z w32 start.args.dy start.ranges.dy) c.before.before.part-y.ensures)
+      (subst (λ (z : ℤ). Splits z (p 2)) (to_z-of_z w32 start.args.dz start.ranges.dz) c.before.part-z.ensures)
 
-module _ (e : tie.Else1) where
+module _ (e : tie.Else-i-list) where
   abbrev at_start : tie.Start
   at_start = start e.before
 
@@ -59,14 +59,14 @@ module _ (e : tie.Else1) where
   accepted : Accepted at_start.args.depth R at_start.args.list.now
   accepted =
       let a = at_start.args in
-      all_stay a.depth (d e.before) (p e.before) (split e.before) a.list.now at_start.pre.1 (stops_never e.before.first-stray.ensures e.if1.left)
+      all_stay a.depth (d e.before) (p e.before) (split e.before) a.list.now at_start.requires.1 (stops_never e.before.first_stray-i.ensures e.if-i-list.false)
 
   -- the shift back gives the displaced voxels
   voxels : (w : ℕ) → w ≡ back at_start.args.depth (p e.before)
       → (v : ℕ) → v < 8 ^ at_start.args.depth → (shifted at_start.args.depth at_start.args.list.now w v ≡ true) ↔ FromBlack R (black at_start.args.depth at_start.args.list.now) v
   voxels w is v h =
       let a = at_start.args in
-      rw is (shifted_exactly a.depth (d e.before) (p e.before) (split e.before) a.list.now at_start.pre.1 accepted v h)
+      rw is (shifted_exactly a.depth (d e.before) (p e.before) (split e.before) a.list.now at_start.requires.1 accepted v h)
 
   -- past the test, the room decides
   next : {t : Answer × List ℕ} → WritesListOf at_start.args.depth (FromBlack R (black at_start.args.depth at_start.args.list.now)) at_start.args.out.now t
@@ -75,29 +75,29 @@ module _ (e : tie.Else1) where
 
 -- ---- the needs
 
-returns : tie.Need-returns
+returns : tie.Need-returns-then-i-list
 returns c =
     let at_if1 = c.before in
     let at-first-stray = at_if1.before in
     let a = (start at-first-stray).args in
-    let F = first_strays a.depth (d at-first-stray) (p at-first-stray) (split at-first-stray) a.list.now (start at-first-stray).requires.1 (stops_first at-first-stray.first-stray.ensures at_if1.if1.true) in
-    inl (_, (at-first-stray.first-stray.result, F, refl), ap (keeping a.out.now) c.refusal.ensures)
+    let F = first_strays a.depth (d at-first-stray) (p at-first-stray) (split at-first-stray) a.list.now (start at-first-stray).requires.1 (stops_first at-first-stray.first_stray-i.ensures at_if1.if-i-list.true) in
+    inl (_, (at-first-stray.first_stray-i.result, F, refl), ap (keeping a.out.now) c.refusal.ensures)
 
 -- no room: the first pass wrote nothing
-returns_2 : tie.Need-returns-2
+returns_2 : tie.Need-returns-then-out-need
 returns_2 c =
     let counted = c.before.before.before.before in
     let shift = counted.before.before in
     let else1 = shift.before in
-    next else1 (crowded _ _ _ (voxels else1 shift.backwards.result shift.backwards.ensures) counted.shift-list.ensures c.refusal2.ensures c.before.if2.true)
+    next else1 (crowded _ _ _ (voxels else1 shift.backwards-w.result shift.backwards-w.ensures) counted.shift_list-need.ensures c.refusal-then-out-need.ensures c.before.if-out-need.true)
 
-returns_3 : tie.Need-returns-3
+returns_3 : tie.Need-returns
 returns_3 c =
     let room = c.before.before.before.before.before in
     let counted = room.before.before.before in
     let shift = counted.before.before in
     let else1 = shift.before in
-    next else1 (written _ _ _ (voxels else1 shift.backwards.result shift.backwards.ensures) counted.shift-list.ensures c.success.ensures room.if2.false c.before.before.before.shift-list2.ensures)
+    next else1 (written _ _ _ (voxels else1 shift.backwards-w.result shift.backwards-w.ensures) counted.shift_list-need.ensures c.success.ensures room.if-out-need.false c.before.before.before.shift_list-place.ensures)
 
 pub move_whole_spec : {M : Type 1} → statement M
 move_whole_spec =

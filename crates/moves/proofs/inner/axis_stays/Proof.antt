@@ -13,6 +13,6 @@ axis_stays_spec =
     tie.close
     (tie.spec
     (λ c κs. search rules)
-    (λ c. let a = c.before.args in omega (arith, c.level-of.ensures, level_le a.depth a.code))
+    (λ c. let a = c.before.args in omega (arith, c.level_of.ensures, level_le a.depth a.code))
     (λ c κs. search rules) (λ c κs. search rules) (λ c κs. search rules) (λ c κs. search rules)
-    (λ c. let at_pow22 = c.before.before in rw (c.stays.ensures, at_pow22.pow22.ensures, c.before.coordinate.ensures, at_pow22.before.pow2.ensures, at_pow22.before.before.level-of.ensures)))
+    (λ c. let at_pow22 = c.before.before in rw (c.stays.ensures, at_pow22.pow2.ensures, c.before.coordinate.ensures, at_pow22.before.pow2-s.ensures, at_pow22.before.before.level_of.ensures)))

@@ -10,4 +10,4 @@ backwards_spec =
     tie.close
     (tie.spec
     (λ c κs. search rules) (λ c κs. search rules) (λ c κs. search rules) (λ c κs. search rules)
-    (λ c. let at-reverse3 = c.before in let at-reverse2 = at-reverse3.before in rw (c.number_of_lem.ensures, at-reverse2.before.reverse.ensures, at-reverse2.reverse2.ensures, at-reverse3.reverse3.ensures)))
+    (λ c. let at-reverse3 = c.before in let at-reverse2 = at-reverse3.before in rw (c.number_of.ensures, at-reverse2.before.reverse.ensures, at-reverse2.reverse-2.ensures, at-reverse3.reverse-3.ensures)))

@@ -12,10 +12,10 @@ use Rattle.moves.specs.Inner.{leaf_keeps}
 use Rattle.moves.proofs.inner.first_stray.Statement.{statement}
 use Rattle.moves.proofs.inner.first_stray.Tie as tie
 
-abbrev invariant-loop : tie.invariant-loop
+abbrev invariant-loop : tie.invariant-loop-i
 invariant-loop depth list x y z i₀ i = (i ≤ length list) × ((j : ℕ) → j < i → leaf_keeps depth (axes x y z) (get_or list j 0) ≡ true)
 
-abbrev decreases-loop : tie.decreases-loop
+abbrev decreases-loop : tie.decreases-loop-i
 decreases-loop depth list x y z i₀ i = length list - i
 
 pub first_stray_spec : {M : Type 1} → statement M
@@ -27,12 +27,12 @@ first_stray_spec =
     (λ c. omega arith) (λ c. omega arith)
     (λ c κs.
     let start = c.before.before.before.before in
-    (start.requires.0, proper_at start.args.depth start.args.list.now start.requires.1 c.before.before.loop.i (omega arith)))
+    (start.requires.0, proper_at start.args.depth start.args.list.now start.requires.1 c.before.before.loop-i.i (omega arith)))
     (λ c.
-    let u = c.before.before.before.before.loop in
-    record { within = u.invariant.0; before = u.invariant.1; here = λ _. sym c.before.leaf_stays.ensures ∙ not-true _ c.if1.true })
+    let u = c.before.before.before.before.loop-i in
+    record { within = u.invariant.0; before = u.invariant.1; here = λ _. sym c.before.leaf_stays.ensures ∙ c.if-not-leaf_stays.true })
     (λ c. omega arith) (λ c. omega arith)
     (λ c.
-    let u = c.before.before.before.before.loop in
-    (omega arith, below_more _ _ u.invariant.1 (sym c.before.leaf_stays.ensures ∙ not-false _ c.if1.false)))
-    (λ c. let u = c.before.loop in record { within = u.invariant.0; before = u.invariant.1; here = λ h. absurd (omega arith) }))
+    let u = c.before.before.before.before.loop-i in
+    (omega arith, below_more _ _ u.invariant.1 (sym c.before.leaf_stays.ensures ∙ c.if-not-leaf_stays.false)))
+    (λ c. let u = c.before.loop-i in record { within = u.invariant.0; before = u.invariant.1; here = λ h. absurd (omega arith) }))

@@ -12,13 +12,13 @@ leaf_stays_spec =
     tie.close
     (tie.spec
     (λ c κs. search rules)
-    (λ c. sym (rw (sym c.before.axis-stays.ensures ∙ not-true _ c.if1.true)))
+    (λ c. sym (rw (sym c.before.axis_stays.ensures ∙ c.if-not-axis_stays.true)))
     (λ c κs. search rules)
     (λ c.
     let at_if1 = c.before.before in
-    sym (rw (sym at_if1.before.axis-stays.ensures ∙ not-false _ at_if1.if1.false, sym c.before.axis-stays2.ensures ∙ not-true _ c.if2.true)))
+    sym (rw (sym at_if1.before.axis_stays.ensures ∙ at_if1.if-not-axis_stays.false, sym c.before.axis_stays-2.ensures ∙ c.if-not-axis_stays-2.true)))
     (λ c κs. search rules)
     (λ c.
     let at-axis-stays2 = c.before.before in
     let at_if1 = at-axis-stays2.before in
-    c.axis-stays3.ensures ∙ sym (rw (sym at_if1.before.axis-stays.ensures ∙ not-false _ at_if1.if1.false, sym at-axis-stays2.axis-stays2.ensures ∙ not-false _ c.before.if2.false))))
+    c.axis_stays-3.ensures ∙ sym (rw (sym at_if1.before.axis_stays.ensures ∙ at_if1.if-not-axis_stays.false, sym at-axis-stays2.axis_stays-2.ensures ∙ c.before.if-not-axis_stays-2.false))))

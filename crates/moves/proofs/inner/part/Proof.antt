@@ -45,16 +45,16 @@ module _ (s : tie.Start) where
   d = s.args.d
 
   reads : to_z w32 (of_z w32 d) ≡ d
-  reads = to_z-of_z w32 d s.fits.d
+  reads = to_z-of_z w32 d s.ranges.d
 
   wides : to_z w64 (of_z w64 (to_z w32 (of_z w32 d))) ≡ d
-  wides = rw reads (to_z-of_z w64 d (wider d s.fits.d))
+  wides = rw reads (to_z-of_z w64 d (wider d s.ranges.d))
 
   is_up : le_z (pos 0) (to_z w32 (of_z w32 d)) ≡ true → Up d
-  is_up h = up d s.fits.d (rw reads at h)
+  is_up h = up d s.ranges.d (rw reads at h)
 
   is_down : le_z (pos 0) (to_z w32 (of_z w32 d)) ≡ false → Down d
-  is_down h = down d s.fits.d (rw reads at h)
+  is_down h = down d s.ranges.d (rw reads at h)
 
   minus : Down d → to_z w64 (of_z w64 (pos 0 -ℤ to_z w64 (of_z w64 (to_z w32 (of_z w32 d))))) ≡ pos 0 -ℤ d
   minus x = rw wides (to_z-of_z w64 (pos 0 -ℤ d) x.wide)
@@ -63,9 +63,9 @@ pub part_spec : {M : Type 1} → statement M
 part_spec =
     tie.close
     (tie.spec
-    (λ c. rw (reads c.before) (is_up c.before c.if1.true).fits)
-    (λ c. rw (reads c.before) (is_up c.before c.if1.true).parts)
+    (λ c. rw (reads c.before) (is_up c.before c.if-d-ge0.true).fits)
+    (λ c. rw (reads c.before) (is_up c.before c.if-d-ge0.true).parts)
     (λ c. rw (reads c.before) (wider (d c.before) c.before.ranges.d))
-    (λ c. rw (wides c.before) (is_down c.before c.if1.false).wide)
-    (λ c. let x = is_down c.before c.if1.false in rw (minus c.before x) x.fits)
-    (λ c. let x = is_down c.before c.if1.false in rw (minus c.before x) x.parts))
+    (λ c. rw (wides c.before) (is_down c.before c.if-d-ge0.false).wide)
+    (λ c. let x = is_down c.before c.if-d-ge0.false in rw (minus c.before x) x.fits)
+    (λ c. let x = is_down c.before c.if-d-ge0.false in rw (minus c.before x) x.parts))

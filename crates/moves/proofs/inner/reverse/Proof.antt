@@ -9,8 +9,8 @@ use Rattle.moves.specs.Inner.{reversed}
 use Rattle.moves.proofs.inner.reverse.Statement.{statement}
 use Rattle.moves.proofs.inner.reverse.Tie as tie
 
-some : (c : tie.After-pow2) → 0 < c.pow2.result
-some c = omega (arith, c.pow2.ensures, pow2_pos c.before.args.depth)
+some : (c : tie.After-pow2-side) → 0 < c.pow2-side.result
+some c = omega (arith, c.pow2-side.ensures, pow2_pos c.before.args.depth)
 
 pub reverse_spec : {M : Type 1} → statement M
 unfolding reversed
@@ -21,6 +21,6 @@ reverse_spec =
     (λ c. omega (arith, some c))
     (λ c. omega (arith, some c))
     (λ c. omega (arith, mod-lt c.before.args.d.up (some c)))
-    (λ c. omega (arith, mod-lt c.before.args.d.down (some c), c.pow2.ensures, pow2_small c.before.args.depth c.before.requires))
+    (λ c. omega (arith, mod-lt c.before.args.d.down (some c), c.pow2-side.ensures, pow2_small c.before.args.depth c.before.requires))
     (λ c. omega (arith, some c))
-    (λ c. rw c.pow2.ensures))
+    (λ c. rw c.pow2-side.ensures))

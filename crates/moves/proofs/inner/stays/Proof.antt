@@ -8,4 +8,4 @@ use Rattle.moves.proofs.inner.stays.Tie as tie
 pub stays_spec : {M : Type 1} → statement M
 stays_spec =
     tie.close
-    (tie.spec (λ c. search rules) (λ c. search rules) (λ c. search rules) (λ c. sym (rw (lt-leb _ _ c.if1.true))) (λ c. search rules) (λ c. search rules) (λ c. search rules) (λ c. sym (rw (le-leb _ _ c.if1.false))))
+    (tie.spec (λ c. search rules) (λ c. search rules) (λ c. search rules) (λ c. sym (rw (lt-leb _ _ c.if-from-up.true))) (λ c. search rules) (λ c. search rules) (λ c. search rules) (λ c. sym (rw (le-leb _ _ c.if-from-up.false))))
