@@ -10,21 +10,21 @@ pub started_spec : {M : Type 1} → statement M
 started_spec =
     tie.close
     (tie.spec
-    (λ c. let start = c.before.before in let a = start.args in started_none a.depth a.list.now start.requires.1 a.v a.at start.requires.2 c.if1.true)
+    (λ c. let start = c.before.before in let a = start.args in started_none a.depth a.list.now start.requires.1 a.v a.at start.requires.2 c.if-list-at.true)
     (λ c. search rules)
     (λ c. search rules)
     (λ c κs.
     let else1 = c.before in
     let start = else1.before.before in
     let a = start.args in
-    (omega (arith, start.requires.0), proper_at a.depth a.list.now start.requires.1 a.at else1.if1.false))
+    (omega (arith, start.requires.0), proper_at a.depth a.list.now start.requires.1 a.at else1.if-list-at.false))
     (λ c.
     let start = c.before.before.before.before.before in
     let a = start.args in
-    started_later a.depth a.list.now start.requires.1 a.v a.at start.requires.2 (omega (arith, c.if2.true, c.before.first.ensures)))
+    started_later a.depth a.list.now start.requires.1 a.v a.at start.requires.2 (omega (arith, c.if-v-first.true, c.before.first.ensures)))
     (λ c. search rules)
     (λ c.
     let else1 = c.before.before.before in
     let start = else1.before.before in
     let a = start.args in
-    started_here a.depth a.list.now start.requires.1 a.v a.at start.requires.2 else1.if1.false (omega (arith, c.if2.false, c.before.first.ensures))))
+    started_here a.depth a.list.now start.requires.1 a.v a.at start.requires.2 else1.if-list-at.false (omega (arith, c.if-v-first.false, c.before.first.ensures))))

@@ -19,7 +19,7 @@ use Rattle.plain.proofs.conversions.to_list.Statement.{statement}
 use Rattle.plain.proofs.conversions.to_list.Tie as tie
 
 -- past the tests
-module _ (c : tie.Else2) where
+module _ (c : tie.Else-bits-bytes) where
   abbrev start : tie.Start
   start = c.before.before.before.before.before
 
@@ -33,31 +33,31 @@ module _ (c : tie.Else2) where
   o = start.args.out.now
 
   told : {t : Answer × List ℕ} → WritesListOf D (λ v. black_in D b v ≡ true) o t → ToListOf D b o t.0 t.1
-  told w = inr (passes (deep_enough c.before.before.if1.false), inr (bits_long D _ c.before.bytes-for.ensures b c.if2.false, w))
+  told w = inr (passes (deep_enough c.before.before.if-depth-gt-DEEPEST_PLAIN.false), inr (bits_long D _ c.before.bytes_for-bytes.ensures b c.if-bits-bytes.false, w))
 
 pub to_list_spec : {M : Type 1} → statement M
 to_list_spec =
     tie.close
     (tie.spec
     (λ c κs. search rules)
-    (λ c. let o = c.before.before.before.before.args.out.now in inl (_, (c.before.if1.true, refl), ap (keeping o) c.refusal.ensures))
-    (λ c κs. c.if1.false)
+    (λ c. let o = c.before.before.before.before.args.out.now in inl (_, (c.before.if-depth-gt-DEEPEST_PLAIN.true, refl), ap (keeping o) c.refusal.ensures))
+    (λ c κs. c.if-depth-gt-DEEPEST_PLAIN.false)
     (λ c κs. search rules)
     (λ c.
     let at_bytes = c.before.before in
     let a = at_bytes.before.before.before.before.args in
-    inr (passes (deep_enough at_bytes.before.if1.false), inl (_, bits_short a.depth _ at_bytes.bytes-for.ensures a.bits.now c.before.if2.true c.refusal2.ensures, refl)))
+    inr (passes (deep_enough at_bytes.before.if-depth-gt-DEEPEST_PLAIN.false), inl (_, bits_short a.depth _ at_bytes.bytes_for-bytes.ensures a.bits.now c.before.if-bits-bytes.true c.refusal-then-bits-bytes.ensures, refl)))
     (λ c. search rules) (λ c. search rules)
-    (λ c κs. let else2 = c.before in (else2.before.before.if1.false, omega (arith, else2.if2.false, else2.before.bytes-for.ensures)))
+    (λ c κs. let else2 = c.before in (else2.before.before.if-depth-gt-DEEPEST_PLAIN.false, omega (arith, else2.if-bits-bytes.false, else2.before.bytes_for-bytes.ensures)))
     (λ c κs. search rules) (λ c. search rules)
     (λ c.
     let counted = c.before.before.before.before in
     let else2 = counted.before.before in
-    told else2 (crowded (D else2) _ _ (λ v h. (λ e. e, λ e. e)) counted.gather.ensures c.refusal3.ensures c.before.if3.true))
-    (λ c κs. let else2 = c.before.before.before.before.before.before in (else2.before.before.if1.false, omega (arith, else2.if2.false, else2.before.bytes-for.ensures)))
+    told else2 (crowded (D else2) _ _ (λ v h. (λ e. e, λ e. e)) counted.gather-need.ensures c.refusal-then-out-need.ensures c.before.if-out-need.true))
+    (λ c κs. let else2 = c.before.before.before.before.before.before in (else2.before.before.if-depth-gt-DEEPEST_PLAIN.false, omega (arith, else2.if-bits-bytes.false, else2.before.bytes_for-bytes.ensures)))
     (λ c κs. search rules) (λ c. search rules)
     (λ c.
     let room = c.before.before.before.before.before in
     let counted = room.before.before.before in
     let else2 = counted.before.before in
-    told else2 (written (D else2) _ _ (λ v h. (λ e. e, λ e. e)) counted.gather.ensures c.success.ensures room.if3.false c.before.before.before.gather2.ensures)))
+    told else2 (written (D else2) _ _ (λ v h. (λ e. e, λ e. e)) counted.gather-need.ensures c.success.ensures room.if-out-need.false c.before.before.before.gather-place.ensures)))

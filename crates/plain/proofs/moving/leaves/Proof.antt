@@ -19,7 +19,7 @@ leaves_spec =
     let at-is-one = c.before in
     let a = at-is-one.before.before.args in (
       λ e. absurd (clash e refl),
-      λ (dark, _). absurd (eqb-false (bit_at a.bits.now a.u) 1 (sym at-is-one.is_one.ensures ∙ not-true _ c.if1.true) ((black_in_lem a.depth a.bits.now a.u).0 dark).1),
+      λ (dark, _). absurd (eqb-false (bit_at a.bits.now a.u) 1 (sym at-is-one.is_one.ensures ∙ c.if-not-is_one.true) ((black_in_lem a.depth a.bits.now a.u).0 dark).1),
     ))
     (λ c κs. let start = c.before.before.before in omega (arith, start.requires.0))
     (λ c κs. search rules)
@@ -28,7 +28,7 @@ leaves_spec =
     let at-is-one = else1.before in
     let start = at-is-one.before.before in
     let a = start.args in
-    let one = eqb-true (bit_at a.bits.now a.u) 1 (sym at-is-one.is_one.ensures ∙ not-false _ else1.if1.false) in
+    let one = eqb-true (bit_at a.bits.now a.u) 1 (sym at-is-one.is_one.ensures ∙ else1.if-not-is_one.false) in
     let x = leaves_exactly a.depth d a.bits.now a.u c.displace.result start.requires.2 (c.displace.ensures d split) one in
     let full = c.before.pow8.ensures in
     (λ e. x.0 (omega (arith, leb-true c.before.pow8.result c.displace.result e, full)), λ t. le-leb c.before.pow8.result c.displace.result (omega (arith, x.1 t, full)))))

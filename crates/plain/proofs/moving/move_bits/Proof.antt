@@ -17,7 +17,7 @@ use Rattle.plain.proofs.moving.move_bits.Statement.{statement}
 use Rattle.plain.proofs.moving.move_bits.Tie as tie
 
 -- past the depth
-module _ (c : tie.Else1) where
+module _ (c : tie.Else-depth-gt-DEEPEST_PLAIN) where
   abbrev start : tie.Start
   start = c.before.before.before
 
@@ -25,17 +25,17 @@ module _ (c : tie.Else1) where
       → MoveBitsOf start.args.depth start.args.bits.now start.args.m start.args.out.now t.0 t.1
   next t {m} is d =
       let a = start.args in
-      subst (λ (n : Move). MoveBitsOf a.depth a.bits.now n a.out.now t.0 t.1) (sym is) (inr (passes (deep_enough c.if1.false), d))
+      subst (λ (n : Move). MoveBitsOf a.depth a.bits.now n a.out.now t.0 t.1) (sym is) (inr (passes (deep_enough c.if-depth-gt-DEEPEST_PLAIN.false), d))
 
 -- whole voxels: no test of their own
-returns_2 : tie.Need-returns-2
+returns_2 : tie.Need-returns-in-Voxels
 returns_2 c =
-    let w = c.before.before.move-whole in
-    let at-m = c.before.before.before.before.before in
-    let a = (start at-m.before.before).args in
-    let (f, (g, (h, _))) = c.before.before.before.before.known-told.given in
-    let left : Answer × List ℕ = (w.result, w.new.1.1.1.1.1.0) in
-    next at-m.before.before left at-m.m.given.1 (
+    let w = c.before.before.move_whole in
+    let at_voxels = c.before.before.before.before in
+    let a = (start at_voxels.before).args in
+    let (f, (g, (h, _))) = at_voxels.in-Voxels.known_told-1-own.given in
+    let left : Answer × List ℕ = (w.result, w.new.out) in
+    next at_voxels.before left at_voxels.in-Voxels.is (
       _,
       _,
       _,
@@ -48,15 +48,15 @@ move_bits_spec =
     tie.close
     (tie.spec
     (λ c κs. search rules)
-    (λ c. let o = c.before.before.before.before.args.out.now in inl (_, (c.before.if1.true, refl), ap (keeping o) c.refusal.ensures))
+    (λ c. let o = c.before.before.before.before.args.out.now in inl (_, (c.before.if-depth-gt-DEEPEST_PLAIN.true, refl), ap (keeping o) c.refusal.ensures))
     (λ c. search rules)
-    (λ c κs. c.before.before.before.before.if1.false)
+    (λ c κs. c.if-depth-gt-DEEPEST_PLAIN.false)
     (λ c. search rules)
-    (λ c κs. c.before.before.before.before.if1.false)
+    (λ c κs. c.if-depth-gt-DEEPEST_PLAIN.false)
     (λ c. search rules)
     returns_2
     (λ c. search rules)
     (λ c.
-    let w = c.before.before.move-metres in
-    let at-m2 = c.before.before.before.before.before in
-    next at-m2.before.before (w.result, w.new.1.1.1.0) at-m2.m2.given.1 w.ensures))
+    let w = c.before.before.move_metres in
+    let at_metres = c.before.before.before.before in
+    next at_metres.before (w.result, w.new.out) at_metres.in-Metres.is w.ensures))

@@ -16,29 +16,29 @@ use Rattle.plain.specs.Calls.{ShiftBitsOf}
 use Rattle.plain.proofs.moving.move_metres.Statement.{statement}
 use Rattle.plain.proofs.moving.move_metres.Tie as tie
 
-returns : tie.Need-returns
+returns : tie.Need-returns-in-Bad
 returns c =
-    let at-taken = c.before.before in
-    let at-in-voxels = at-taken.before.before in
-    let a = at-in-voxels.before.before.before.args in
-    let p = at-taken.taken.given.0.0 in
+    let at_bad = c.before in
+    let at_in_voxels = at_bad.before in
+    let a = at_in_voxels.before.before.before.args in
+    let p = at_bad.in-Bad.place in
     let P : Answer × List ℕ → Type 0 = ByVoxels (the-move.Metres a.d) (ShiftBitsOf a.depth a.bits.now a.out.now) in
-    let told : TakenOf a.d (Bad p) = subst (TakenOf a.d) at-taken.taken.given.1 at-in-voxels.in-voxels.ensures in
+    let told : TakenOf a.d (Bad p) = subst (TakenOf a.d) at_bad.in-Bad.is at_in_voxels.in_voxels-taken.ensures in
     subst (λ (r : Answer). Decided (keeping a.out.now) (move_tests (the-move.Metres a.d)) P (r, a.out.now)) (sym c.refusal.ensures)
     (bad_decides (keeping a.out.now) P a.d p told)
 
-returns_2 : tie.Need-returns-2
+returns_2 : tie.Need-returns-in-Voxels
 returns_2 c =
-    let w = c.before.before.move-whole in
-    let at-taken2 = c.before.before.before.before.before in
-    let f = c.before.before.before.before.known-told2.given in
-    let at-in-voxels = at-taken2.before.before in
-    let a = at-in-voxels.before.before.before.args in
-    let g = at-taken2.taken2.given.0 in
-    let told : TakenOf a.d (Voxels g.0 g.1.0 g.1.1.0) = subst (TakenOf a.d) at-taken2.taken2.given.1 at-in-voxels.in-voxels.ensures in
-    let left : Answer × List ℕ = (w.result, w.new.1.1.1.1.1.0) in
+    let w = c.before.before.move_whole in
+    let at_voxels = c.before.before.before.before in
+    let g = at_voxels.in-Voxels in
+    let f = g.known_told-in-Voxels-1-own.given in
+    let at_in_voxels = at_voxels.before in
+    let a = at_in_voxels.before.before.before.args in
+    let told : TakenOf a.d (Voxels g.dx g.dy g.dz) = subst (TakenOf a.d) g.is at_in_voxels.in_voxels-taken.ensures in
+    let left : Answer × List ℕ = (w.result, w.new.out) in
     let P : Answer × List ℕ → Type 0 = ByVoxels (the-move.Metres a.d) (ShiftBitsOf a.depth a.bits.now a.out.now) in
-    whole_decides (keeping a.out.now) P a.d g.0 g.1.0 g.1.1.0 left told
+    whole_decides (keeping a.out.now) P a.d g.dx g.dy g.dz left told
     (λ becomes. (
       _,
       _,

@@ -10,19 +10,19 @@ use Rattle.plain.proofs.moving.paint_accepted.Statement.{statement}
 use Rattle.plain.proofs.moving.paint_accepted.Tie as tie
 
 -- a black voxel leaves: the buffer is as it was
-returns : tie.Need-returns
-returns c d back searched = inl (_, (_, searched.found (omega (arith, c.before.if1.true, c.before.before.pow8.ensures)), refl), ap (keeping _) c.refusal.ensures)
+returns : tie.Need-returns-then-u-pow8
+returns c d back searched = inl (_, (_, searched.found (omega (arith, c.before.if-u-pow8.true, c.before.before.pow8.ensures)), refl), ap (keeping _) c.refusal.ensures)
 
 -- none does
-returns_2 : tie.Need-returns-2
+returns_2 : tie.Need-returns
 returns_2 c d back searched =
     let at_bytes = c.before in
     let at-paint = at_bytes.before.before.before in
     let else1 = at-paint.before.before in
     let a = else1.before.before.before.before.args in
     inr (
-      passes_first (searched.none (omega (arith, else1.if1.false, else1.before.pow8.ensures))),
-      gives_painted a.depth _ at_bytes.bytes-for.ensures (at-paint.paint-moved.ensures d back) c.success.ensures,
+      passes_first (searched.none (omega (arith, else1.if-u-pow8.false, else1.before.pow8.ensures))),
+      gives_painted a.depth _ at_bytes.bytes_for.ensures (at-paint.paint_moved.ensures d back) c.success.ensures,
     )
 
 pub paint_accepted_spec : {M : Type 1} → statement M

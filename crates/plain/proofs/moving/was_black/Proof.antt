@@ -20,16 +20,16 @@ was_black_spec =
     let start = at-displace.before.before in
     let a = start.args in (
       λ e. absurd (clash e refl),
-      λ t. absurd (from_outside a.depth d a.bits.now a.v at-displace.displace.result start.requires.2 (at-displace.displace.ensures (λ i. neg_ℤ (d i)) split) (omega (arith, c.if1.true, c.before.pow8.ensures)) t),
+      λ t. absurd (from_outside a.depth d a.bits.now a.v at-displace.displace-u.result start.requires.2 (at-displace.displace-u.ensures (λ i. neg_ℤ (d i)) split) (omega (arith, c.if-pow8-u.true, c.before.pow8.ensures)) t),
     ))
     (λ c κs.
     let start = c.before.before.before.before in
-    omega (arith, c.if1.false, c.before.pow8.ensures, start.requires.1, bytes_enough start.args.depth))
+    omega (arith, c.if-pow8-u.false, c.before.pow8.ensures, start.requires.1, bytes_enough start.args.depth))
     (λ c d split.
     let else1 = c.before in
     let at-displace = else1.before.before in
     let start = at-displace.before.before in
     let a = start.args in
-    let x = from_inside a.depth d a.bits.now a.v at-displace.displace.result start.requires.2 (at-displace.displace.ensures (λ i. neg_ℤ (d i)) split) (omega (arith, else1.if1.false, else1.before.pow8.ensures)) in
+    let x = from_inside a.depth d a.bits.now a.v at-displace.displace-u.result start.requires.2 (at-displace.displace-u.ensures (λ i. neg_ℤ (d i)) split) (omega (arith, else1.if-pow8-u.false, else1.before.pow8.ensures)) in
     let e = c.is_one.ensures in
     (λ t. x.0 (sym e ∙ t), λ t. e ∙ x.1 t)))

@@ -18,31 +18,31 @@ use Rattle.plain.proofs.Voxels.{black_bit}
 use Rattle.plain.proofs.operations.paint_chosen.Statement.{statement}
 use Rattle.plain.proofs.operations.paint_chosen.Tie as tie
 
-abbrev invariant-loop : tie.invariant-loop
+abbrev invariant-loop : tie.invariant-loop-v
 invariant-loop op depth a b out₀ full v₀ out v = Progress (λ u. Chosen op (black_in depth a u ≡ true) (black_in depth b u ≡ true)) v out₀ out × (v ≤ 8 ^ depth)
 
-abbrev decreases-loop : tie.decreases-loop
+abbrev decreases-loop : tie.decreases-loop-v
 decreases-loop op depth a b out₀ full v₀ out v = full - v
 
-module _ (c : tie.In-loop invariant-loop decreases-loop) where
-  abbrev at_pow8 : tie.After-pow8 invariant-loop decreases-loop
+module _ (c : tie.In-loop-v invariant-loop decreases-loop) where
+  abbrev at_pow8 : tie.After-pow8-full invariant-loop decreases-loop
   at_pow8 = c.before.before
 
   abbrev start : tie.Start invariant-loop decreases-loop
   start = at_pow8.before.before.before.before
 
   abbrev here : ℕ
-  here = c.before.loop.v
+  here = c.before.loop-v.v
 
   inside : here < 8 ^ start.args.depth
-  inside = omega (arith, c.loop-test.true, at_pow8.pow8.ensures)
+  inside = omega (arith, c.loop-v-test.true, at_pow8.pow8-full.ensures)
 
-  room : here < 8 * length c.before.loop.out
-  room = omega (arith, inside, bytes_enough start.args.depth, c.before.loop.invariant.0.size, start.pre.3)
+  room : here < 8 * length c.before.loop-v.out
+  room = omega (arith, inside, bytes_enough start.args.depth, c.before.loop-v.invariant.0.size, start.requires.3)
 
 -- the colour that is written
 module _ (c : tie.After-choose invariant-loop decreases-loop) where
-  abbrev in_loop : tie.In-loop invariant-loop decreases-loop
+  abbrev in_loop : tie.In-loop-v invariant-loop decreases-loop
   in_loop = c.before.before.before.before
 
   -- a voxel's colour in a, and in b
@@ -56,7 +56,7 @@ module _ (c : tie.After-choose invariant-loop decreases-loop) where
   chose =
       let a = (start in_loop).args in
       let bit : (b : List ℕ) → eqb (bit_at b (here in_loop)) 1 ≡ black_in a.depth b (here in_loop) = λ b. sym (black_bit a.depth b (here in_loop) (inside in_loop)) in
-      let e = c.choose.ensures ∙ ap₂ (chosen a.op) (c.before.before.is_one.ensures ∙ bit a.a.now) (c.before.is-one2.ensures ∙ bit a.b.now) in
+      let e = c.choose.ensures ∙ ap₂ (chosen a.op) (c.before.before.is_one.ensures ∙ bit a.a.now) (c.before.is_one-in-loop-v.ensures ∙ bit a.b.now) in
       let x = chosen_exactly a.op colour_a colour_b in
       (λ t. x.0 (sym e ∙ t), λ t. e ∙ x.1 t)
 
@@ -72,13 +72,13 @@ paint_chosen_spec =
     (λ c κs. search rules)
     (λ c κs. room c.before.before.before.before)
     (λ c. let in_loop = c.before.before.before.before.before.before.before in record { fits = omega (arith, inside in_loop, codes_fit (start in_loop).args.depth (omega (arith, (start in_loop).requires.0))) })
-    (λ c. let in_loop = c.before.before.before.before.before.before.before in omega (arith, in_loop.loop-test.true))
+    (λ c. let in_loop = c.before.before.before.before.before.before.before in omega (arith, in_loop.loop-v-test.true))
     (λ c.
     let at-choose = c.before.before.before in
     let in_loop = in_loop at-choose in
-    (progress_more at-choose.choose.result in_loop.before.loop.inv.0 (room in_loop) c.before.before.mark.ensures (chose at-choose), omega (arith, inside in_loop)))
-    (λ c. c.before.loop.invariant.0.size)
+    (progress_more at-choose.choose.result in_loop.before.loop-v.invariant.0 (room in_loop) c.before.before.mark.ensures (chose at-choose), omega (arith, inside in_loop)))
+    (λ c. c.before.loop-v.invariant.0.size)
     (λ c.
     let at_loop = c.before in
     let start = at_loop.before.before.before.before.before in
-    progress_all start.args.depth at_loop.loop.invariant.0 (omega (arith, c.loop-test.false, at_loop.before.pow8.ensures, at_loop.loop.invariant.1)) start.requires.3))
+    progress_all start.args.depth at_loop.loop-v.invariant.0 (omega (arith, c.loop-v-test.false, at_loop.before.pow8-full.ensures, at_loop.loop-v.invariant.1)) start.requires.3))

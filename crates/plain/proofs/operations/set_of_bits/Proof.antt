@@ -16,7 +16,7 @@ use Rattle.plain.proofs.PlainLaws.{bits_short, bits_long, gives_painted}
 use Rattle.plain.proofs.operations.set_of_bits.Statement.{statement}
 use Rattle.plain.proofs.operations.set_of_bits.Tie as tie
 
-module _ (c : tie.After-bytes-for) where
+module _ (c : tie.After-bytes_for-need) where
   abbrev start : tie.Start
   start = c.before.before.before.before.before
 
@@ -37,42 +37,42 @@ module _ (c : tie.After-bytes-for) where
   Rest = GivesBits D (λ v. Chosen start.args.op (black_in D a v ≡ true) (black_in D b v ≡ true)) o
 
   first : {t : Answer × List ℕ} → Decided (keeping o) (BitsShort D a ∷ BitsShort D b ∷ BitsShort D o ∷ []) Rest t → SetBitsOf start.args.op D a b o t.0 t.1
-  first d = inr (passes (deep_enough c.before.if1.false), d)
+  first d = inr (passes (deep_enough c.before.if-depth-gt-DEEPEST_PLAIN.false), d)
 
 -- past the first buffer, and past the second
-module _ (c : tie.Else2) where
+module _ (c : tie.Else-a-need) where
   second : {t : Answer × List ℕ} → Decided (keeping (o c.before)) (BitsShort (D c.before) (b c.before) ∷ BitsShort (D c.before) (o c.before) ∷ []) (Rest c.before) t
       → SetBitsOf (start c.before).args.op (D c.before) (a c.before) (b c.before) (o c.before) t.0 t.1
-  second d = first c.before (inr (bits_long (D c.before) _ c.before.bytes-for.ensures (a c.before) c.if2.false, d))
+  second d = first c.before (inr (bits_long (D c.before) _ c.before.bytes_for-need.ensures (a c.before) c.if-a-need.false, d))
 
-module _ (c : tie.Else3) where
+module _ (c : tie.Else-b-need) where
   third : {t : Answer × List ℕ} → Decided (keeping (o c.before.before)) (BitsShort (D c.before.before) (o c.before.before) ∷ []) (Rest c.before.before) t
       → SetBitsOf (start c.before.before).args.op (D c.before.before) (a c.before.before) (b c.before.before) (o c.before.before) t.0 t.1
-  third d = let at_bytes = c.before.before in second c.before (inr (bits_long (D at_bytes) _ at_bytes.bytes-for.ensures (b at_bytes) c.if3.false, d))
+  third d = let at_bytes = c.before.before in second c.before (inr (bits_long (D at_bytes) _ at_bytes.bytes_for-need.ensures (b at_bytes) c.if-b-need.false, d))
 
 pub set_of_bits_spec : {M : Type 1} → statement M
 set_of_bits_spec =
     tie.close
     (tie.spec
     (λ c κs. search rules)
-    (λ c. let o = c.before.before.before.before.before.args.out.now in inl (_, (c.before.if1.true, refl), ap (keeping o) c.refusal.ensures))
-    (λ c κs. c.if1.false)
+    (λ c. let o = c.before.before.before.before.before.args.out.now in inl (_, (c.before.if-depth-gt-DEEPEST_PLAIN.true, refl), ap (keeping o) c.refusal.ensures))
+    (λ c κs. c.if-depth-gt-DEEPEST_PLAIN.false)
     (λ c κs. search rules)
-    (λ c. let at_bytes = c.before.before in first at_bytes (inl (_, bits_short (D at_bytes) _ at_bytes.bytes-for.ensures (a at_bytes) c.before.if2.true c.refusal2.ensures, refl)))
+    (λ c. let at_bytes = c.before.before in first at_bytes (inl (_, bits_short (D at_bytes) _ at_bytes.bytes_for-need.ensures (a at_bytes) c.before.if-a-need.true c.refusal-then-a-need.ensures, refl)))
     (λ c κs. search rules)
-    (λ c. let at_bytes = c.before.before.before in second c.before.before (inl (_, bits_short (D at_bytes) _ at_bytes.bytes-for.ensures (b at_bytes) c.before.if3.true c.refusal3.ensures, refl)))
+    (λ c. let at_bytes = c.before.before.before in second c.before.before (inl (_, bits_short (D at_bytes) _ at_bytes.bytes_for-need.ensures (b at_bytes) c.before.if-b-need.true c.refusal-then-b-need.ensures, refl)))
     (λ c κs. search rules)
-    (λ c. let at_bytes = c.before.before.before.before in third c.before.before (inl (_, bits_short (D at_bytes) _ at_bytes.bytes-for.ensures (o at_bytes) c.before.if4.true c.refusal4.ensures, refl)))
+    (λ c. let at_bytes = c.before.before.before.before in third c.before.before (inl (_, bits_short (D at_bytes) _ at_bytes.bytes_for-need.ensures (o at_bytes) c.before.if-out-need.true c.refusal-then-out-need.ensures, refl)))
     (λ c κs.
     let else4 = c.before in
     let at_bytes = else4.before.before.before in
-    let is = at_bytes.bytes-for.ensures in
-    (at_bytes.before.if1.false, omega (arith, else4.before.before.if2.false, is), omega (arith, else4.before.if3.false, is), omega (arith, else4.if4.false, is)))
+    let is = at_bytes.bytes_for-need.ensures in
+    (at_bytes.before.if-depth-gt-DEEPEST_PLAIN.false, omega (arith, else4.before.before.if-a-need.false, is), omega (arith, else4.before.if-b-need.false, is), omega (arith, else4.if-out-need.false, is)))
     (λ c κs. search rules)
     (λ c. search rules)
     (λ c.
     let at-paint = c.before.before.before in
     let else4 = at-paint.before.before in
     let at_bytes = else4.before.before.before in
-    let is = at_bytes.bytes-for.ensures in
-    third else4.before (inr (bits_long (D at_bytes) _ is (o at_bytes) else4.if4.false, gives_painted (D at_bytes) _ is at-paint.paint-chosen.ensures c.success.ensures))))
+    let is = at_bytes.bytes_for-need.ensures in
+    third else4.before (inr (bits_long (D at_bytes) _ is (o at_bytes) else4.if-out-need.false, gives_painted (D at_bytes) _ is at-paint.paint_chosen.ensures c.success.ensures))))

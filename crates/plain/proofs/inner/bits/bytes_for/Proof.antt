@@ -11,7 +11,7 @@ pub bytes_for_spec : {M : Type 1} → statement M
 bytes_for_spec =
     tie.close
     (tie.spec
-    (λ c. bytes_none c.before.args.depth c.if1.true)
+    (λ c. bytes_none c.before.args.depth c.if-depth-eq0.true)
     (λ c κs. let start = c.before in omega (arith, start.requires))
     (λ c. search rules)
-    (λ c. ap (λ (n : ℕ). n / 8) c.pow8.ensures ∙ bytes_some c.before.before.args.depth c.before.if1.false))
+    (λ c. ap (λ (n : ℕ). n / 8) c.pow8.ensures ∙ bytes_some c.before.before.args.depth c.before.if-depth-eq0.false))

@@ -29,11 +29,11 @@ black_byte b v t e = rw (e, one_bit v) (ap (λ (x : ℕ). b % 2 ^ (v % 8) + x) (
 white_byte : (b v : ℕ) (t : Bool) → t ≡ false → b % ((1 * 2 ^ (v % 8)) % 256) ≡ b % 2 ^ (v % 8) + bit t * 2 ^ (v % 8)
 white_byte b v t e = rw (e, one_bit v) (omega arith)
 
-returns : tie.Need-returns
-returns c = let a = c.before.before.args in ap (set a.bits.now (a.v / 8)) (black_byte (get_or a.bits.now (a.v / 8) 0) a.v a.black c.if1.true)
+returns : tie.Need-returns-then-black
+returns c = let a = c.before.before.args in ap (set a.bits.now (a.v / 8)) (black_byte (get_or a.bits.now (a.v / 8) 0) a.v a.black c.if-black.true)
 
-returns_2 : tie.Need-returns-2
-returns_2 c = let a = c.before.before.args in ap (set a.bits.now (a.v / 8)) (white_byte (get_or a.bits.now (a.v / 8) 0) a.v a.black c.if1.false)
+returns_2 : tie.Need-returns-else-black
+returns_2 c = let a = c.before.before.args in ap (set a.bits.now (a.v / 8)) (white_byte (get_or a.bits.now (a.v / 8) 0) a.v a.black c.if-black.false)
 
 pub mark_spec : {M : Type 1} → statement M
 mark_spec =

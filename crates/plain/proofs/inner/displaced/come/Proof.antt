@@ -11,12 +11,12 @@ use Rattle.plain.proofs.inner.displaced.come.Statement.{statement}
 use Rattle.plain.proofs.inner.displaced.come.Tie as tie
 
 -- the coordinate stays
-module _ (c : tie.Else1) where
+module _ (c : tie.Else-not-stays) where
   abbrev start : tie.Start
   start = c.before.before
 
   kept : keeps start.args.side start.args.x 1 start.args.d ≡ true
-  kept = sym c.before.stays.ensures ∙ not-false _ c.if1.false
+  kept = sym c.before.stays.ensures ∙ c.if-not-stays.false
 
   parts : (start.args.d.down ≤ start.args.x + start.args.d.up) × (start.args.x + 1 + start.args.d.up ≤ start.args.side + start.args.d.down)
   parts = kept_parts start.args.side start.args.x 1 start.args.d kept
@@ -26,7 +26,7 @@ come_spec =
     tie.close
     (tie.spec
     (λ c κs. search rules)
-    (λ c z split. let a = c.before.before.args in come_out a.side a.x a.d z split (sym c.before.stays.ensures ∙ not-true _ c.if1.true))
+    (λ c z split. let a = c.before.before.args in come_out a.side a.x a.d z split (sym c.before.stays.ensures ∙ c.if-not-stays.true))
     (λ c. search rules) (λ c. search rules) (λ c. search rules)
     (λ c. (parts c.before.before).0)
     (λ c. let else1 = c.before.before in record { fits = omega (arith, parts else1, (start else1).ranges.side.fits) })
