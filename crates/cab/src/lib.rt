@@ -28,8 +28,7 @@ fn pack(number: u32, place: u64) -> u64
 }
 
 // The neighbour address.
-#[unsafe(no_mangle)]
-pub extern "C" fn cab_neighbour(depth: u32, code: u32, dx: i32, dy: i32, dz: i32) -> u64
+pub fn cab_neighbour(depth: u32, code: u32, dx: i32, dy: i32, dz: i32) -> u64
     ensures { Packed (NeighbourOf depth code (axes dx dy dz)) result }
 {
     let next = neighbour(depth, code, dx, dy, dz);
@@ -37,8 +36,7 @@ pub extern "C" fn cab_neighbour(depth: u32, code: u32, dx: i32, dy: i32, dz: i32
 }
 
 // The block check.
-#[unsafe(no_mangle)]
-pub extern "C" fn cab_check_blocks(bytes: &[u8]) -> u64
+pub fn cab_check_blocks(bytes: &[u8]) -> u64
     ensures { Packed (BlockCheckOf bytes.now) result }
 {
     let checked = check_blocks(bytes);
@@ -46,8 +44,7 @@ pub extern "C" fn cab_check_blocks(bytes: &[u8]) -> u64
 }
 
 // The volume of a stored file.
-#[unsafe(no_mangle)]
-pub extern "C" fn cab_stored_volume(bytes: &[u8]) -> u64
+pub fn cab_stored_volume(bytes: &[u8]) -> u64
     ensures { Packed (StoredVolumeOf bytes.now) result }
 {
     let measured = stored_volume(bytes);

@@ -7,16 +7,17 @@ mod on_moves;
 
 use picturing::inner::on_bits;
 use printing::inner::{on_cells, on_records, on_sets, on_text, on_turns};
+use std::io;
 
-fn main() {
-    on_cells::run();
-    on_records::run();
-    on_sets::run();
-    on_moves::run();
-    on_moves::run_metres();
-    on_blocks::run();
-    on_text::run();
-    on_df::run();
-    on_turns::run();
-    on_bits::run();
+fn main(rt: HostRuntime) -> io::Result<()> {
+    on_cells::run(&rt)?;
+    on_records::run(&rt)?;
+    on_sets::run(&rt)?;
+    on_moves::run(&rt)?;
+    on_moves::run_metres(&rt)?;
+    on_blocks::run(&rt)?;
+    on_text::run(&rt)?;
+    on_df::run(&rt)?;
+    on_turns::run(&rt)?;
+    on_bits::run(&rt)
 }

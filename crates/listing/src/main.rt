@@ -6,7 +6,8 @@ ghost use Rattle.std.specs.Prelude.{◌≤◌, length};
 ghost use Rattle.listing.specs.Listing.{longest, most_codes, longest_text, Page};
 
 use blocks::{BLOCK_BYTES, BLOCK_CODES, read};
-use libc::{STDIN_FILENO, STDOUT_FILENO};
+use reading::inner::read_full;
+use std::io;
 use text::{LONGEST_HEAD, LONGEST_PATH, list_text, refused_text};
 
 // The most blocks of a file, their bytes, the codes that they hold at most, and the bytes of the text of those.
@@ -36,15 +37,14 @@ fn page(bytes: &[u8], codes: &mut [u32], text: &mut [u8]) -> usize
     listed.place as usize
 }
 
-fn main() {
+fn main(rt: HostRuntime) -> io::Result<()> {
     let mut bytes = [0u8; LONGEST + 1];
-    let n = io::read_full(STDIN_FILENO, &mut bytes);
+    let n = read_full(&mut rt.stdin(), &mut bytes);
     if LONGEST < n {
-        io::write_all(STDOUT_FILENO, b"too long\n");
-        return;
+        return rt.write_all(b"too long\n");
     }
     let mut codes = [0u32; MOST_CODES];
     let mut text = [0u8; LONGEST_TEXT];
     let size = page(&bytes[..n], &mut codes, &mut text);
-    io::write_all(STDOUT_FILENO, &text[..size]);
+    rt.write_all(&text[..size])
 }

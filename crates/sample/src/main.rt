@@ -3,22 +3,32 @@
 #![tactic(auto)]
 
 use blocks::write;
-use libc::STDOUT_FILENO;
+use std::env::{Env, FillError};
+use std::io;
 
-fn put(list: &[u32]) {
+fn put(rt: &impl Print, list: &[u32]) -> io::Result<()> {
     let mut bytes = [0u8; 512];
     let wrote = write(3, list, &mut bytes);
     if wrote.number == 0 {
-        io::write_all(STDOUT_FILENO, &bytes);
+        rt.write_all(&bytes)?;
+    }
+    Ok(())
+}
+
+// Whether the program was given an argument, be it text or not.
+fn has_argument(rt: &impl Env) -> bool {
+    match rt.arg(1, &mut []) {
+        Err(FillError::NotPresent) => false,
+        _ => true,
     }
 }
 
-fn main() {
-    if os::arg_count() < 2 {
-        // r0 r10 r110 r111 r12 r2
-        put(&[8, 72, 584, 585, 74, 10]);
-    } else {
+fn main(rt: HostRuntime) -> io::Result<()> {
+    if has_argument(&rt) {
         // r00 r01 r02 r03
-        put(&[64, 65, 66, 67]);
+        put(&rt, &[64, 65, 66, 67])
+    } else {
+        // r0 r10 r110 r111 r12 r2
+        put(&rt, &[8, 72, 584, 585, 74, 10])
     }
 }

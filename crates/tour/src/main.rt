@@ -10,60 +10,59 @@ use metres::Move;
 use print::{BYTES, LEAVES, load, show, tell, tell_found};
 use records::{lookup, volume};
 use sets::intersect;
+use std::io;
 
 // The joined record in its file, and the volumes in voxels: of ours, of theirs where it was moved to, of the join and of the intersection.
-fn report(depth: u32, own: &[u32], moved: &[u32], file: &[u8]) {
+fn report(rt: &impl Print, depth: u32, own: &[u32], moved: &[u32], file: &[u8]) -> io::Result<()> {
     let mut both = [0u32; LEAVES];
-    show(b"the joined record\n", file);
-    tell(b"volume of ours", volume(depth, own));
-    tell(b"volume of theirs", volume(depth, moved));
-    tell(b"volume of the join", stored_volume(file));
+    show(rt, b"the joined record\n", file)?;
+    tell(rt, b"volume of ours", volume(depth, own))?;
+    tell(rt, b"volume of theirs", volume(depth, moved))?;
+    tell(rt, b"volume of the join", stored_volume(file))?;
     let made = intersect(depth, own, moved, &mut both);
     let number = made.number;
     if number != 0 {
-        tell(b"not intersected", made);
-        return;
+        return tell(rt, b"not intersected", made);
     }
     let n = made.place as usize;
-    tell(b"volume of the intersection", volume(depth, &both[..n]));
+    tell(rt, b"volume of the intersection", volume(depth, &both[..n]))
 }
 
 // Two voxels of the joined record in its file: the colour of each, and the level of the largest cell of that colour that holds it. In the sample records the first
 // lies in the leaf r13, cut by theirs alone, and the second four voxels above it in r5, where nothing is cut.
-fn look(file: &[u8]) {
+fn look(rt: &impl Print, file: &[u8]) -> io::Result<()> {
     let mut codes = [0u32; LEAVES];
     let found = read(file, &mut codes);
     let answer = found.answer;
     let number = answer.number;
     if number != 0 {
-        tell(b"not read", answer);
-        return;
+        return tell(rt, b"not read", answer);
     }
     let depth = found.depth;
     let n = answer.place as usize;
     let joined = &codes[..n];
-    tell_found(b"voxel 7 3 1", lookup(depth, joined, 7, 3, 1));
-    tell_found(b"voxel 7 3 5", lookup(depth, joined, 7, 3, 5));
+    tell_found(rt, b"voxel 7 3 1", lookup(depth, joined, 7, 3, 1))?;
+    tell_found(rt, b"voxel 7 3 5", lookup(depth, joined, 7, 3, 5))
 }
 
 // The two lists joined, and the join stored.
-fn store(depth: u32, own: &[u32], moved: &[u32]) {
+fn store(rt: &impl Print, depth: u32, own: &[u32], moved: &[u32]) -> io::Result<()> {
     let mut joined = [0u32; LEAVES];
     let mut file = [0u8; BYTES];
     let stored = merge(depth, own, moved, &mut joined, &mut file);
     let number = stored.number;
-    tell(b"joined and stored", stored);
+    tell(rt, b"joined and stored", stored)?;
     if number != 0 {
-        return;
+        return Ok(());
     }
     let size = stored.place as usize;
     let written = &file[..size];
-    report(depth, own, moved, written);
-    look(written);
+    report(rt, depth, own, moved, written)?;
+    look(rt, written)
 }
 
 // The job, with the words for the move's answer: ours is read; theirs is read and moved by `m`; and the two are joined and stored.
-fn take_in(asked: &[u8], ours: &[u8], theirs: &[u8], m: Move) {
+fn take_in(rt: &impl Print, asked: &[u8], ours: &[u8], theirs: &[u8], m: Move) -> io::Result<()> {
     let mut own = [0u32; LEAVES];
     let mut codes = [0u32; LEAVES];
     let mut moved = [0u32; LEAVES];
@@ -71,51 +70,52 @@ fn take_in(asked: &[u8], ours: &[u8], theirs: &[u8], m: Move) {
     let answer = found.answer;
     let number = answer.number;
     if number != 0 {
-        tell(b"ours not read", answer);
-        return;
+        return tell(rt, b"ours not read", answer);
     }
     let arrived = arrive(found.depth, theirs, m, &mut codes, &mut moved);
     let number = arrived.number;
-    tell(asked, arrived);
+    tell(rt, asked, arrived)?;
     if number != 0 {
-        return;
+        return Ok(());
     }
     let n = answer.place as usize;
     let k = arrived.place as usize;
-    store(found.depth, &own[..n], &moved[..k]);
+    store(rt, found.depth, &own[..n], &moved[..k])
 }
 
 // Their record with a byte of its first code changed.
-fn show_damaged(file: &mut [u8]) {
+fn show_damaged(rt: &impl Print, file: &mut [u8]) -> io::Result<()> {
     if file.len() < 17 {
-        return;
+        return Ok(());
     }
     file[16] = 255;
-    show(b"the record that arrived, damaged\n", file);
+    show(rt, b"the record that arrived, damaged\n", file)
 }
 
-fn main() {
+fn main(rt: HostRuntime) -> io::Result<()> {
     let mut bytes = [0u8; BYTES];
     let mut arrived = [0u8; BYTES];
-    let n = load(1, &mut bytes);
-    let k = load(2, &mut arrived);
+    let n = load(&rt, 1, &mut bytes);
+    let k = load(&rt, 2, &mut arrived);
     let ours = &bytes[..n];
     let theirs = &arrived[..k];
-    show(b"our record\n", ours);
-    show(b"the record that arrived\n", theirs);
+    show(&rt, b"our record\n", ours)?;
+    show(&rt, b"the record that arrived\n", theirs)?;
     // their origin lies 4 voxels to the east and 2 to the north of ours
     take_in(
+        &rt,
         b"theirs moved by 4 2 0",
         ours,
         theirs,
         Move::Voxels(4, 2, 0),
-    );
+    )?;
     // one voxel further it would leave the root
     take_in(
+        &rt,
         b"theirs moved by 5 2 0",
         ours,
         theirs,
         Move::Voxels(5, 2, 0),
-    );
-    show_damaged(&mut arrived[..k]);
+    )?;
+    show_damaged(&rt, &mut arrived[..k])
 }

@@ -2,74 +2,75 @@
 use crate::inner::bytes;
 use plain::{to_bits, to_list};
 use printing::inner::print;
+use std::io;
 
-fn painted(depth: u32, list: &[u32], room: usize) {
+fn painted(rt: &impl Print, depth: u32, list: &[u32], room: usize) -> io::Result<()> {
     let mut space = [255u8; 8];
     let out = bytes::places(&mut space, room);
     let r = to_bits(depth, list, out);
-    print::text(b"to_bits");
-    print::number(depth as u64);
-    print::codes(list);
-    print::text(b" room");
-    print::number(out.len() as u64);
-    print::answer(r);
-    bytes::front(r, out);
-    print::end();
+    print::text(rt, b"to_bits")?;
+    print::number(rt, depth as u64)?;
+    print::codes(rt, list)?;
+    print::text(rt, b" room")?;
+    print::number(rt, out.len() as u64)?;
+    print::answer(rt, r)?;
+    bytes::front(rt, r, out)?;
+    print::end(rt)
 }
 
-fn gathered(depth: u32, bits: &[u8], room: usize) {
+fn gathered(rt: &impl Print, depth: u32, bits: &[u8], room: usize) -> io::Result<()> {
     let mut space = [0u32; 2];
     let out = print::places(&mut space, room);
     let r = to_list(depth, bits, out);
-    print::text(b"to_list");
-    print::number(depth as u64);
-    bytes::all(bits);
-    print::text(b" room");
-    print::number(out.len() as u64);
-    print::answer(r);
-    print::front(r, out);
-    print::end();
+    print::text(rt, b"to_list")?;
+    print::number(rt, depth as u64)?;
+    bytes::all(rt, bits)?;
+    print::text(rt, b" room")?;
+    print::number(rt, out.len() as u64)?;
+    print::answer(rt, r)?;
+    print::front(rt, r, out)?;
+    print::end(rt)
 }
 
-fn lists() {
+fn lists(rt: &impl Print) -> io::Result<()> {
     // r0 is bit 0 and r3 bit 3; at depth 2 r0 is the first byte, and r17 bit 7 of the second; at depth 0 the seven spare bits are written 0
-    painted(1, &[8, 11], 1);
-    painted(2, &[8, 79], 8);
-    painted(0, &[1], 1);
-    painted(0, &[], 1);
+    painted(rt, 1, &[8, 11], 1)?;
+    painted(rt, 2, &[8, 79], 8)?;
+    painted(rt, 0, &[1], 1)?;
+    painted(rt, 0, &[], 1)
 }
 
-fn refused_lists() {
+fn refused_lists(rt: &impl Print) -> io::Result<()> {
     // in the order of the tests, what comes later being at fault too: the depth, each fault of a list; then a byte too few
-    painted(7, &[7], 0);
-    painted(1, &[7], 0);
-    painted(1, &[8, 8], 0);
-    painted(1, &[8, 9, 10, 11, 12, 13, 14, 15], 0);
-    painted(2, &[8, 79], 7);
-    painted(0, &[1], 0);
+    painted(rt, 7, &[7], 0)?;
+    painted(rt, 1, &[7], 0)?;
+    painted(rt, 1, &[8, 8], 0)?;
+    painted(rt, 1, &[8, 9, 10, 11, 12, 13, 14, 15], 0)?;
+    painted(rt, 2, &[8, 79], 7)?;
+    painted(rt, 0, &[1], 0)?;
     // at depth 6 there are 32 KiB of bits
-    painted(6, &[1], 8);
+    painted(rt, 6, &[1], 8)
 }
 
-fn bits() {
+fn bits(rt: &impl Print) -> io::Result<()> {
     // the same bits back; eight siblings are the root; at depth 0 the spare bits are not read
-    gathered(1, &[9], 2);
-    gathered(2, &[255, 128, 0, 0, 0, 0, 0, 0], 2);
-    gathered(1, &[255], 1);
-    gathered(0, &[255], 1);
-    gathered(0, &[254], 0);
+    gathered(rt, 1, &[9], 2)?;
+    gathered(rt, 2, &[255, 128, 0, 0, 0, 0, 0, 0], 2)?;
+    gathered(rt, 1, &[255], 1)?;
+    gathered(rt, 0, &[255], 1)?;
+    gathered(rt, 0, &[254], 0)
 }
 
-fn refused_bits() {
+fn refused_bits(rt: &impl Print) -> io::Result<()> {
     // the depth; then the bytes that the bits need, before the leaves that the list needs
-    gathered(7, &[], 0);
-    gathered(2, &[255, 128, 0, 0, 0, 0, 0], 1);
-    gathered(2, &[255, 128, 0, 0, 0, 0, 0, 0], 1);
+    gathered(rt, 7, &[], 0)?;
+    gathered(rt, 2, &[255, 128, 0, 0, 0, 0, 0], 1)?;
+    gathered(rt, 2, &[255, 128, 0, 0, 0, 0, 0, 0], 1)
 }
 
-pub fn run() {
-    lists();
-    refused_lists();
-    bits();
-    refused_bits();
+pub fn run(rt: &impl Print) -> io::Result<()> {
+    lists(rt)?;
+    refused_lists(rt)?;
+    bits(rt)?;
+    refused_bits(rt)
 }

@@ -3,97 +3,113 @@ use crate::inner::bytes;
 use metres::{Metres, Move};
 use plain::move_bits;
 use printing::inner::print;
+use std::io;
 
-fn whole(depth: u32, bits: &[u8], dx: i32, dy: i32, dz: i32, room: usize) {
+fn whole(
+    rt: &impl Print,
+    depth: u32,
+    bits: &[u8],
+    dx: i32,
+    dy: i32,
+    dz: i32,
+    room: usize,
+) -> io::Result<()> {
     let mut space = [255u8; 8];
     let out = bytes::places(&mut space, room);
     let r = move_bits(depth, bits, Move::Voxels(dx, dy, dz), out);
-    print::text(b"move_bits");
-    print::number(depth as u64);
-    bytes::all(bits);
-    print::signed(dx);
-    print::signed(dy);
-    print::signed(dz);
-    print::text(b" room");
-    print::number(out.len() as u64);
-    print::answer(r);
-    bytes::front(r, out);
-    print::end();
+    print::text(rt, b"move_bits")?;
+    print::number(rt, depth as u64)?;
+    bytes::all(rt, bits)?;
+    print::signed(rt, dx)?;
+    print::signed(rt, dy)?;
+    print::signed(rt, dz)?;
+    print::text(rt, b" room")?;
+    print::number(rt, out.len() as u64)?;
+    print::answer(rt, r)?;
+    bytes::front(rt, r, out)?;
+    print::end(rt)
 }
 
 // In metres, under a name: the first voxel, and where it goes.
-fn in_metres(depth: u32, name: &[u8], d: Metres, room: usize) {
+fn in_metres(rt: &impl Print, depth: u32, name: &[u8], d: Metres, room: usize) -> io::Result<()> {
     let mut space = [255u8; 1];
     let out = bytes::places(&mut space, room);
     let r = move_bits(depth, &[1], Move::Metres(d), out);
-    print::text(b"move_bits");
-    print::number(depth as u64);
-    print::text(b" [1] metres ");
-    print::text(name);
-    print::number(d.s as u64);
-    print::text(b" room");
-    print::number(out.len() as u64);
-    print::answer(r);
-    bytes::front(r, out);
-    print::end();
+    print::text(rt, b"move_bits")?;
+    print::number(rt, depth as u64)?;
+    print::text(rt, b" [1] metres ")?;
+    print::text(rt, name)?;
+    print::number(rt, d.s as u64)?;
+    print::text(rt, b" room")?;
+    print::number(rt, out.len() as u64)?;
+    print::answer(rt, r)?;
+    bytes::front(rt, r, out)?;
+    print::end(rt)
 }
 
-fn accepted() {
+fn accepted(rt: &impl Print) -> io::Result<()> {
     // at depth 1 a step along x, y and z from voxel 0 leads to voxels 1, 2 and 4
-    whole(1, &[1], 1, 0, 0, 1);
-    whole(1, &[1], 0, 1, 0, 1);
-    whole(1, &[1], 0, 0, 1, 1);
-    whole(1, &[128], -1, -1, -1, 1);
+    whole(rt, 1, &[1], 1, 0, 0, 1)?;
+    whole(rt, 1, &[1], 0, 1, 0, 1)?;
+    whole(rt, 1, &[1], 0, 0, 1, 1)?;
+    whole(rt, 1, &[128], -1, -1, -1, 1)?;
     // r0 by x +1 at depth 2, and back
-    whole(2, &[255, 0, 0, 0, 0, 0, 0, 0], 1, 0, 0, 8);
-    whole(2, &[170, 85, 0, 0, 0, 0, 0, 0], -1, 0, 0, 8);
+    whole(rt, 2, &[255, 0, 0, 0, 0, 0, 0, 0], 1, 0, 0, 8)?;
+    whole(rt, 2, &[170, 85, 0, 0, 0, 0, 0, 0], -1, 0, 0, 8)?;
     // no black voxel: every whole move is taken; at depth 0 the spare bits are not read, and are written 0
-    whole(1, &[0], -2147483648, 0, 0, 1);
-    whole(0, &[255], 0, 0, 0, 1);
-    whole(0, &[254], 1, 0, 0, 1);
+    whole(rt, 1, &[0], -2147483648, 0, 0, 1)?;
+    whole(rt, 0, &[255], 0, 0, 0, 1)?;
+    whole(rt, 0, &[254], 1, 0, 0, 1)
 }
 
-fn refused() {
+fn refused(rt: &impl Print) -> io::Result<()> {
     // the first voxel that leaves, by its number
-    whole(1, &[6], 1, 0, 0, 1);
-    whole(1, &[6], 0, 1, 0, 1);
-    whole(2, &[255, 255, 0, 0, 0, 0, 0, 0], 1, 0, 0, 8);
+    whole(rt, 1, &[6], 1, 0, 0, 1)?;
+    whole(rt, 1, &[6], 0, 1, 0, 1)?;
+    whole(rt, 2, &[255, 255, 0, 0, 0, 0, 0, 0], 1, 0, 0, 8)?;
     // the depth; and, before a voxel that leaves, the bytes needed
-    whole(7, &[], 1, 0, 0, 0);
-    whole(2, &[6], 1, 0, 0, 8);
-    whole(1, &[6], 1, 0, 0, 0);
+    whole(rt, 7, &[], 1, 0, 0, 0)?;
+    whole(rt, 2, &[6], 1, 0, 0, 8)?;
+    whole(rt, 1, &[6], 1, 0, 0, 0)
 }
 
 fn displacement(x: f64, y: f64, z: f64, s: u32) -> Metres {
     Metres { x, y, z, s }
 }
 
-fn rounded() {
+fn rounded(rt: &impl Print) -> io::Result<()> {
     // a half goes away from zero, and one step down leaves the root; the bytes needed come before that
-    in_metres(1, b"0.0625", displacement(0.0625, 0.0, 0.0, 3), 1);
-    in_metres(1, b"-0.0625", displacement(-0.0625, 0.0, 0.0, 3), 1);
-    in_metres(1, b"-0.0625", displacement(-0.0625, 0.0, 0.0, 3), 0);
+    in_metres(rt, 1, b"0.0625", displacement(0.0625, 0.0, 0.0, 3), 1)?;
+    in_metres(rt, 1, b"-0.0625", displacement(-0.0625, 0.0, 0.0, 3), 1)?;
+    in_metres(rt, 1, b"-0.0625", displacement(-0.0625, 0.0, 0.0, 3), 0)
 }
 
-fn no_numbers() {
+fn no_numbers(rt: &impl Print) -> io::Result<()> {
     // in the order of the tests, what comes later being at fault too: the depth, the edge number, each coordinate; all come before the bytes needed
     let far = 1e308 * 10.0;
     let no_edge = displacement(far, far, far, 11);
-    in_metres(7, b"infinity", no_edge, 0);
-    in_metres(1, b"infinity", no_edge, 0);
-    in_metres(1, b"infinity", displacement(far, far, far, 3), 0);
+    in_metres(rt, 7, b"infinity", no_edge, 0)?;
+    in_metres(rt, 1, b"infinity", no_edge, 0)?;
+    in_metres(rt, 1, b"infinity", displacement(far, far, far, 3), 0)?;
     in_metres(
+        rt,
         1,
         b"infinity along y and z",
         displacement(0.0, far, far, 3),
         0,
-    );
-    in_metres(1, b"infinity along z", displacement(0.0, 0.0, far, 3), 0);
+    )?;
+    in_metres(
+        rt,
+        1,
+        b"infinity along z",
+        displacement(0.0, 0.0, far, 3),
+        0,
+    )
 }
 
-pub fn run() {
-    accepted();
-    refused();
-    rounded();
-    no_numbers();
+pub fn run(rt: &impl Print) -> io::Result<()> {
+    accepted(rt)?;
+    refused(rt)?;
+    rounded(rt)?;
+    no_numbers(rt)
 }

@@ -1,91 +1,92 @@
 // Cells and codes, and neighbours.
 use crate::inner::print;
+use std::io;
 
-fn place(depth: u32, code: u32) {
+fn place(rt: &impl Print, depth: u32, code: u32) -> io::Result<()> {
     let r = cells::place(depth, code);
     let a = r.answer;
-    print::text(b"place");
-    print::number(depth as u64);
-    print::number(code as u64);
-    print::answer(a);
-    print::text(b" at");
-    print::number(r.x as u64);
-    print::number(r.y as u64);
-    print::number(r.z as u64);
-    print::level(r.level);
-    print::end();
+    print::text(rt, b"place")?;
+    print::number(rt, depth as u64)?;
+    print::number(rt, code as u64)?;
+    print::answer(rt, a)?;
+    print::text(rt, b" at")?;
+    print::number(rt, r.x as u64)?;
+    print::number(rt, r.y as u64)?;
+    print::number(rt, r.z as u64)?;
+    print::level(rt, r.level)?;
+    print::end(rt)
 }
 
-fn code(depth: u32, x: u32, y: u32, z: u32, level: u32) {
-    print::text(b"code");
-    print::number(depth as u64);
-    print::number(x as u64);
-    print::number(y as u64);
-    print::number(z as u64);
-    print::number(level as u64);
-    print::answer(cells::code(depth, x, y, z, level));
-    print::end();
+fn code(rt: &impl Print, depth: u32, x: u32, y: u32, z: u32, level: u32) -> io::Result<()> {
+    print::text(rt, b"code")?;
+    print::number(rt, depth as u64)?;
+    print::number(rt, x as u64)?;
+    print::number(rt, y as u64)?;
+    print::number(rt, z as u64)?;
+    print::number(rt, level as u64)?;
+    print::answer(rt, cells::code(depth, x, y, z, level))?;
+    print::end(rt)
 }
 
-fn neighbour(depth: u32, code: u32, dx: i32, dy: i32, dz: i32) {
-    print::text(b"neighbour");
-    print::number(depth as u64);
-    print::number(code as u64);
-    print::signed(dx);
-    print::signed(dy);
-    print::signed(dz);
-    print::answer(cells::neighbour(depth, code, dx, dy, dz));
-    print::end();
+fn neighbour(rt: &impl Print, depth: u32, code: u32, dx: i32, dy: i32, dz: i32) -> io::Result<()> {
+    print::text(rt, b"neighbour")?;
+    print::number(rt, depth as u64)?;
+    print::number(rt, code as u64)?;
+    print::signed(rt, dx)?;
+    print::signed(rt, dy)?;
+    print::signed(rt, dz)?;
+    print::answer(rt, cells::neighbour(depth, code, dx, dy, dz))?;
+    print::end(rt)
 }
 
-fn places_and_codes() {
+fn places_and_codes(rt: &impl Print) -> io::Result<()> {
     // r is 1, r0 is 8, r057 is 559; 0, 2 to 7 are never proper, nor is 16
-    place(3, 1);
-    place(3, 8);
-    place(3, 559);
-    place(3, 0);
-    place(3, 2);
-    place(3, 3);
-    place(3, 4);
-    place(3, 5);
-    place(3, 6);
-    place(3, 7);
-    place(3, 16);
-    place(2, 559);
-    place(11, 1);
+    place(rt, 3, 1)?;
+    place(rt, 3, 8)?;
+    place(rt, 3, 559)?;
+    place(rt, 3, 0)?;
+    place(rt, 3, 2)?;
+    place(rt, 3, 3)?;
+    place(rt, 3, 4)?;
+    place(rt, 3, 5)?;
+    place(rt, 3, 6)?;
+    place(rt, 3, 7)?;
+    place(rt, 3, 16)?;
+    place(rt, 2, 559)?;
+    place(rt, 11, 1)?;
     // and back; a corner that is no multiple of the side, one outside the root, a level below the voxels
-    code(3, 0, 0, 0, 0);
-    code(3, 3, 1, 3, 3);
-    code(3, 3, 1, 3, 2);
-    code(3, 8, 0, 0, 3);
-    code(3, 0, 0, 0, 4);
-    code(11, 0, 0, 0, 0);
+    code(rt, 3, 0, 0, 0, 0)?;
+    code(rt, 3, 3, 1, 3, 3)?;
+    code(rt, 3, 3, 1, 3, 2)?;
+    code(rt, 3, 8, 0, 0, 3)?;
+    code(rt, 3, 0, 0, 0, 4)?;
+    code(rt, 11, 0, 0, 0, 0)
 }
 
-fn steps_of_001() {
+fn steps_of_001(rt: &impl Print) -> io::Result<()> {
     // r742 with steps (-1, +1, +1) gives r675; r0 with x -1 gives 7; the root has no neighbour
-    neighbour(3, 994, -1, 1, 1);
-    neighbour(3, 8, -1, 0, 0);
-    neighbour(0, 1, 0, 0, 1);
+    neighbour(rt, 3, 994, -1, 1, 1)?;
+    neighbour(rt, 3, 8, -1, 0, 0)?;
+    neighbour(rt, 0, 1, 0, 0, 1)
 }
 
-fn along_y() {
+fn along_y(rt: &impl Print) -> io::Result<()> {
     // r057 and r075 are neighbours along y
-    neighbour(3, 559, 0, 1, 0);
-    neighbour(3, 573, 0, -1, 0);
+    neighbour(rt, 3, 559, 0, 1, 0)?;
+    neighbour(rt, 3, 573, 0, -1, 0)
 }
 
-fn refused_steps() {
+fn refused_steps(rt: &impl Print) -> io::Result<()> {
     // refusals in the order of the table: depth, code, direction
-    neighbour(11, 0, 2, 0, 0);
-    neighbour(3, 0, 2, 0, 0);
-    neighbour(3, 559, 2, 0, 0);
-    neighbour(3, 559, 0, 0, 0);
+    neighbour(rt, 11, 0, 2, 0, 0)?;
+    neighbour(rt, 3, 0, 2, 0, 0)?;
+    neighbour(rt, 3, 559, 2, 0, 0)?;
+    neighbour(rt, 3, 559, 0, 0, 0)
 }
 
-pub fn run() {
-    places_and_codes();
-    steps_of_001();
-    along_y();
-    refused_steps();
+pub fn run(rt: &impl Print) -> io::Result<()> {
+    places_and_codes(rt)?;
+    steps_of_001(rt)?;
+    along_y(rt)?;
+    refused_steps(rt)
 }

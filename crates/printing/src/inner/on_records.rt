@@ -1,93 +1,102 @@
 // Lists: check, volume, lookup, leaves met.
 use crate::inner::print;
+use std::io;
 
-fn check(depth: u32, list: &[u32]) {
-    print::text(b"check");
-    print::number(depth as u64);
-    print::codes(list);
-    print::answer(records::check(depth, list));
-    print::end();
+fn check(rt: &impl Print, depth: u32, list: &[u32]) -> io::Result<()> {
+    print::text(rt, b"check")?;
+    print::number(rt, depth as u64)?;
+    print::codes(rt, list)?;
+    print::answer(rt, records::check(depth, list))?;
+    print::end(rt)
 }
 
-fn volume(depth: u32, list: &[u32]) {
-    print::text(b"volume");
-    print::number(depth as u64);
-    print::codes(list);
-    print::answer(records::volume(depth, list));
-    print::end();
+fn volume(rt: &impl Print, depth: u32, list: &[u32]) -> io::Result<()> {
+    print::text(rt, b"volume")?;
+    print::number(rt, depth as u64)?;
+    print::codes(rt, list)?;
+    print::answer(rt, records::volume(depth, list))?;
+    print::end(rt)
 }
 
-pub fn lookup(depth: u32, list: &[u32], x: u32, y: u32, z: u32) {
-    print::text(b"lookup");
-    print::number(depth as u64);
-    print::codes(list);
-    print::number(x as u64);
-    print::number(y as u64);
-    print::number(z as u64);
-    print::finding(records::lookup(depth, list, x, y, z));
-    print::end();
+pub fn lookup(rt: &impl Print, depth: u32, list: &[u32], x: u32, y: u32, z: u32) -> io::Result<()> {
+    print::text(rt, b"lookup")?;
+    print::number(rt, depth as u64)?;
+    print::codes(rt, list)?;
+    print::number(rt, x as u64)?;
+    print::number(rt, y as u64)?;
+    print::number(rt, z as u64)?;
+    print::finding(rt, records::lookup(depth, list, x, y, z))?;
+    print::end(rt)
 }
 
-fn meet_neighbour(depth: u32, list: &[u32], code: u32, dx: i32, dy: i32, dz: i32) {
-    print::text(b"met");
-    print::number(depth as u64);
-    print::codes(list);
-    print::number(code as u64);
-    print::signed(dx);
-    print::signed(dy);
-    print::signed(dz);
-    print::answer(records::met_at(depth, list, code, dx, dy, dz));
-    print::codes(records::met(depth, list, code, dx, dy, dz));
-    print::end();
+fn meet_neighbour(
+    rt: &impl Print,
+    depth: u32,
+    list: &[u32],
+    code: u32,
+    dx: i32,
+    dy: i32,
+    dz: i32,
+) -> io::Result<()> {
+    print::text(rt, b"met")?;
+    print::number(rt, depth as u64)?;
+    print::codes(rt, list)?;
+    print::number(rt, code as u64)?;
+    print::signed(rt, dx)?;
+    print::signed(rt, dy)?;
+    print::signed(rt, dz)?;
+    print::answer(rt, records::met_at(depth, list, code, dx, dy, dz))?;
+    print::codes(rt, records::met(depth, list, code, dx, dy, dz))?;
+    print::end(rt)
 }
 
-fn checked_lists() {
+fn checked_lists(rt: &impl Print) -> io::Result<()> {
     // the empty list is good, and so is the list of r alone
-    check(3, &[]);
-    check(3, &[1]);
+    check(rt, 3, &[])?;
+    check(rt, 3, &[1])?;
     // eight siblings; r07 comes before r1; a number that is no code; a leaf twice; a depth
-    check(1, &[8, 9, 10, 11, 12, 13, 14, 15]);
-    check(2, &[71, 9]);
-    check(2, &[9, 71]);
-    check(2, &[71, 9, 7]);
-    check(2, &[71, 71]);
-    check(11, &[7]);
+    check(rt, 1, &[8, 9, 10, 11, 12, 13, 14, 15])?;
+    check(rt, 2, &[71, 9])?;
+    check(rt, 2, &[9, 71])?;
+    check(rt, 2, &[71, 9, 7])?;
+    check(rt, 2, &[71, 71])?;
+    check(rt, 11, &[7])
 }
 
-fn volumes() {
+fn volumes(rt: &impl Print) -> io::Result<()> {
     // a voxel, the root, and a list that is refused
-    volume(3, &[559]);
-    volume(3, &[1]);
-    volume(3, &[]);
-    volume(3, &[0]);
+    volume(rt, 3, &[559])?;
+    volume(rt, 3, &[1])?;
+    volume(rt, 3, &[])?;
+    volume(rt, 3, &[0])
 }
 
-fn voxels() {
+fn voxels(rt: &impl Print) -> io::Result<()> {
     // r057 stands at 3, 1, 3; r053 at 3, 1, 2 is white, and r05 is not all white; where all is of one colour the cell is the root, of level 0
-    lookup(3, &[559], 3, 1, 3);
-    lookup(3, &[559], 3, 1, 2);
-    lookup(3, &[], 3, 1, 2);
-    lookup(3, &[1], 3, 1, 2);
+    lookup(rt, 3, &[559], 3, 1, 3)?;
+    lookup(rt, 3, &[559], 3, 1, 2)?;
+    lookup(rt, 3, &[], 3, 1, 2)?;
+    lookup(rt, 3, &[1], 3, 1, 2)?;
     // refused, with level 0, in the order of the tests, what comes later being at fault too: the depth, a list, a voxel outside the root
-    lookup(11, &[0], 2048, 0, 0);
-    lookup(3, &[0], 8, 0, 0);
-    lookup(3, &[559, 559], 8, 0, 0);
-    lookup(3, &[559], 8, 0, 0);
+    lookup(rt, 11, &[0], 2048, 0, 0)?;
+    lookup(rt, 3, &[0], 8, 0, 0)?;
+    lookup(rt, 3, &[559, 559], 8, 0, 0)?;
+    lookup(rt, 3, &[559], 8, 0, 0)
 }
 
-fn leaves_met() {
+fn leaves_met(rt: &impl Print) -> io::Result<()> {
     // beside r055 along y stands r057; beside r0 along x stands r1: a bigger leaf, the leaves within, none
-    meet_neighbour(3, &[559], 557, 0, 1, 0);
-    meet_neighbour(3, &[1], 8, 1, 0, 0);
-    meet_neighbour(3, &[71, 72, 79, 10], 8, 1, 0, 0);
-    meet_neighbour(3, &[71, 10], 8, 1, 0, 0);
-    meet_neighbour(3, &[71, 10], 8, -1, 0, 0);
-    meet_neighbour(3, &[71, 10], 8, 0, 0, 0);
+    meet_neighbour(rt, 3, &[559], 557, 0, 1, 0)?;
+    meet_neighbour(rt, 3, &[1], 8, 1, 0, 0)?;
+    meet_neighbour(rt, 3, &[71, 72, 79, 10], 8, 1, 0, 0)?;
+    meet_neighbour(rt, 3, &[71, 10], 8, 1, 0, 0)?;
+    meet_neighbour(rt, 3, &[71, 10], 8, -1, 0, 0)?;
+    meet_neighbour(rt, 3, &[71, 10], 8, 0, 0, 0)
 }
 
-pub fn run() {
-    checked_lists();
-    volumes();
-    voxels();
-    leaves_met();
+pub fn run(rt: &impl Print) -> io::Result<()> {
+    checked_lists(rt)?;
+    volumes(rt)?;
+    voxels(rt)?;
+    leaves_met(rt)
 }

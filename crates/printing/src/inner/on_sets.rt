@@ -2,13 +2,14 @@
 use crate::inner::print;
 use cells::Answer;
 use sets::Op;
+use std::io;
 
 // The call by its name.
-fn name(op: Op) {
+fn name(rt: &impl Print, op: Op) -> io::Result<()> {
     match op {
-        Op::Join => print::text(b"join"),
-        Op::Intersect => print::text(b"intersect"),
-        Op::Subtract => print::text(b"subtract"),
+        Op::Join => print::text(rt, b"join"),
+        Op::Intersect => print::text(rt, b"intersect"),
+        Op::Subtract => print::text(rt, b"subtract"),
     }
 }
 
@@ -21,50 +22,51 @@ fn call(op: Op, depth: u32, a: &[u32], b: &[u32], out: &mut [u32]) -> Answer {
 }
 
 // The call's inputs and its answer, the codes at the front of its buffer, and the volume of the room, where its codes fill it.
-fn made(op: Op, depth: u32, a: &[u32], b: &[u32], room: usize) {
+fn made(rt: &impl Print, op: Op, depth: u32, a: &[u32], b: &[u32], room: usize) -> io::Result<()> {
     let mut space = [0u32; 32];
     let out = print::places(&mut space, room);
     let r = call(op, depth, a, b, out);
-    name(op);
-    print::number(depth as u64);
-    print::codes(a);
-    print::codes(b);
-    print::text(b" room");
-    print::number(room as u64);
-    print::answer(r);
-    print::front(r, out);
-    print::text(b" volume of the room");
-    print::answer(records::volume(depth, out));
-    print::end();
+    name(rt, op)?;
+    print::number(rt, depth as u64)?;
+    print::codes(rt, a)?;
+    print::codes(rt, b)?;
+    print::text(rt, b" room")?;
+    print::number(rt, room as u64)?;
+    print::answer(rt, r)?;
+    print::front(rt, r, out)?;
+    print::text(rt, b" volume of the room")?;
+    print::answer(rt, records::volume(depth, out))?;
+    print::end(rt)
 }
 
-fn published() {
+fn published(rt: &impl Print) -> io::Result<()> {
     // codes 8 to 11 joined with 12 to 15 give the root; one place suffices, none does not
-    made(Op::Join, 1, &[8, 9, 10, 11], &[12, 13, 14, 15], 1);
-    made(Op::Join, 1, &[8, 9, 10, 11], &[12, 13, 14, 15], 0);
+    made(rt, Op::Join, 1, &[8, 9, 10, 11], &[12, 13, 14, 15], 1)?;
+    made(rt, Op::Join, 1, &[8, 9, 10, 11], &[12, 13, 14, 15], 0)?;
     // r less r057 has 21 leaves and volume 511; 20 places are one short, and hold what they held: 0, which is no code
-    made(Op::Subtract, 3, &[1], &[559], 21);
-    made(Op::Subtract, 3, &[1], &[559], 20);
+    made(rt, Op::Subtract, 3, &[1], &[559], 21)?;
+    made(rt, Op::Subtract, 3, &[1], &[559], 20)
 }
 
-fn levels_and_refusals() {
+fn levels_and_refusals(rt: &impl Print) -> io::Result<()> {
     // a join that completes eight siblings on two levels
     made(
+        rt,
         Op::Join,
         2,
         &[64, 65, 66, 67, 9, 10, 11, 12, 13, 14, 15],
         &[68, 69, 70, 71],
         1,
-    );
-    made(Op::Intersect, 3, &[1], &[559], 1);
-    made(Op::Intersect, 3, &[558], &[559], 0);
+    )?;
+    made(rt, Op::Intersect, 3, &[1], &[559], 1)?;
+    made(rt, Op::Intersect, 3, &[558], &[559], 0)?;
     // refusals: the depth, the first list before the second
-    made(Op::Join, 11, &[0], &[0], 4);
-    made(Op::Join, 3, &[0], &[2], 4);
-    made(Op::Join, 3, &[559], &[559, 559], 4);
+    made(rt, Op::Join, 11, &[0], &[0], 4)?;
+    made(rt, Op::Join, 3, &[0], &[2], 4)?;
+    made(rt, Op::Join, 3, &[559], &[559, 559], 4)
 }
 
-pub fn run() {
-    published();
-    levels_and_refusals();
+pub fn run(rt: &impl Print) -> io::Result<()> {
+    published(rt)?;
+    levels_and_refusals(rt)
 }

@@ -1,92 +1,92 @@
 // Words of a line on standard output.
 use cells::Answer;
-use libc::STDOUT_FILENO;
 use moves::inner::part;
 use records::Finding;
+use std::io;
 
-pub fn text(s: &[u8]) {
-    io::write_all(STDOUT_FILENO, s);
+pub fn text(rt: &impl Print, s: &[u8]) -> io::Result<()> {
+    rt.write_all(s)
 }
 
 // A number with a space before it.
-pub fn number(n: u64) {
-    text(b" ");
-    io::print_decimal(STDOUT_FILENO, n);
+pub fn number(rt: &impl Print, n: u64) -> io::Result<()> {
+    print!(rt; " {n}")
 }
 
 // A signed number with a space before it.
-pub fn signed(d: i32) {
+pub fn signed(rt: &impl Print, d: i32) -> io::Result<()> {
     let p = part(d);
     if 0 < p.down {
-        text(b" -");
-        io::print_decimal(STDOUT_FILENO, p.down as u64);
-        return;
+        return print!(rt; " -{}", p.down);
     }
-    number(p.up as u64);
+    number(rt, p.up as u64)
 }
 
 // The code at index i of a list: a space before all but the first.
-fn item(i: usize, code: u32) {
+fn item(rt: &impl Print, i: usize, code: u32) -> io::Result<()> {
     if 0 < i {
-        text(b" ");
+        text(rt, b" ")?;
     }
-    io::print_decimal(STDOUT_FILENO, code as u64);
+    print!(rt; "{code}")
 }
 
-fn items(list: &[u32]) {
+fn items(rt: &impl Print, list: &[u32]) -> io::Result<()> {
     let mut i: usize = 0;
     while i < list.len() {
-        item(i, list[i]);
+        item(rt, i, list[i])?;
         i += 1;
     }
+    Ok(())
 }
 
 // The codes of a list, in brackets.
-pub fn codes(list: &[u32]) {
-    text(b" [");
-    items(list);
-    text(b"]");
+pub fn codes(rt: &impl Print, list: &[u32]) -> io::Result<()> {
+    text(rt, b" [")?;
+    items(rt, list)?;
+    text(rt, b"]")
 }
 
 // Number, place and list, after a colon.
-pub fn answer(a: Answer) {
-    text(b":");
-    number(a.number as u64);
-    number(a.place);
-    number(a.list as u64);
+pub fn answer(rt: &impl Print, a: Answer) -> io::Result<()> {
+    text(rt, b":")?;
+    number(rt, a.number as u64)?;
+    number(rt, a.place)?;
+    number(rt, a.list as u64)
 }
 
-pub fn level(n: u32) {
-    text(b" level");
-    number(n as u64);
+pub fn level(rt: &impl Print, n: u32) -> io::Result<()> {
+    text(rt, b" level")?;
+    number(rt, n as u64)
 }
 
 // What a lookup tells: its answer, and the level beside it.
-pub fn finding(f: Finding) {
+pub fn finding(rt: &impl Print, f: Finding) -> io::Result<()> {
     let a = f.answer;
-    answer(a);
-    level(f.level);
+    answer(rt, a)?;
+    level(rt, f.level)
 }
 
 // The codes that an answer says are written at the front of a buffer: none where it is refused.
-pub fn front(a: Answer, out: &[u32]) {
+pub fn front(rt: &impl Print, a: Answer, out: &[u32]) -> io::Result<()> {
     let n = a.place as usize;
     if a.number == 0 {
         if n <= out.len() {
-            codes(&out[..n]);
+            codes(rt, &out[..n])?;
         }
     }
+    Ok(())
 }
 
 // The text that an answer says is written at the front of a buffer: none where it is refused.
-pub fn front_text(a: Answer, bytes: &[u8]) {
+pub fn front_text(rt: &impl Print, a: Answer, bytes: &[u8]) -> io::Result<()> {
     let n = a.place as usize;
     if a.number == 0 {
         if n <= bytes.len() {
-            text(b" ");
-            text(&bytes[..n]);
+            text(rt, b" ")?;
+            text(rt, &bytes[..n])?;
         }
     }
+    Ok(())
 }
 
 // The first places of a buffer, `room` of them or all.
@@ -97,6 +97,6 @@ pub fn places(space: &mut [u32], room: usize) -> &mut [u32] {
     &mut space[..room]
 }
 
-pub fn end() {
-    text(b"\n");
+pub fn end(rt: &impl Print) -> io::Result<()> {
+    text(rt, b"\n")
 }
