@@ -1,6 +1,6 @@
 /* The calls of the cut-volume layer for the C controller in the cab (archive libcab.a).
  *
- * `rt staticlib cab` proves the calls and makes the archive, target/staticlib/libcab.a, for x86-64. It needs no other library. A program is linked by
+ * `tools/archives` proves the calls and makes the archive, target/staticlib/libcab.a, for x86-64. It needs no other library. A program is linked by
  *
  *   gcc -O2 -Iinclude prog.c target/staticlib/libcab.a -o prog
  *
