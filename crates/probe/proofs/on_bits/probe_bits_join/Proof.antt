@@ -7,4 +7,4 @@ use Rattle.probe.proofs.on_bits.probe_bits_join.Statement.{statement}
 use Rattle.probe.proofs.on_bits.probe_bits_join.Tie as tie
 
 pub probe_bits_join_spec : {M : Type 1} → statement M
-probe_bits_join_spec = tie.close (tie.spec (λ c. inl (omega arith, (refl, refl))) (λ c κs. search rules) (λ c κs. search rules) (λ c. search rules) (λ c. search rules) (λ c. let at-tell = c.before.before in let at-join-bits = at-tell.before.before.before.before in inr (omega arith, (at-join-bits.join-bits.result, at-join-bits.join-bits.ensures, at-tell.tell.ensures))))
+probe_bits_join_spec = tie.close (tie.spec (λ c. inl (omega arith, (refl, refl))) (λ c κs. search rules) (λ c κs. search rules) (λ c. search rules) (λ c. search rules) (λ c. let at-tell = c.before.before in let at-join-bits = at-tell.before.before.before.before in inr (omega arith, (at-join-bits.join_bits-r.result, at-join-bits.join_bits-r.ensures, at-tell.tell.ensures))))

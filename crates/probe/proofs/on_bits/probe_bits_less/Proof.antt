@@ -7,4 +7,4 @@ use Rattle.probe.proofs.on_bits.probe_bits_less.Statement.{statement}
 use Rattle.probe.proofs.on_bits.probe_bits_less.Tie as tie
 
 pub probe_bits_less_spec : {M : Type 1} → statement M
-probe_bits_less_spec = tie.close (tie.spec (λ c. inl (omega arith, (refl, refl))) (λ c κs. search rules) (λ c κs. search rules) (λ c. search rules) (λ c. search rules) (λ c. let at-tell = c.before.before in let at-subtract-bits = at-tell.before.before.before.before in inr (omega arith, (at-subtract-bits.subtract-bits.result, at-subtract-bits.subtract-bits.ensures, at-tell.tell.ensures))))
+probe_bits_less_spec = tie.close (tie.spec (λ c. inl (omega arith, (refl, refl))) (λ c κs. search rules) (λ c κs. search rules) (λ c. search rules) (λ c. search rules) (λ c. let at-tell = c.before.before in let at-subtract-bits = at-tell.before.before.before.before in inr (omega arith, (at-subtract-bits.subtract_bits-r.result, at-subtract-bits.subtract_bits-r.ensures, at-tell.tell.ensures))))

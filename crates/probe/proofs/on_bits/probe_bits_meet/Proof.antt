@@ -7,4 +7,4 @@ use Rattle.probe.proofs.on_bits.probe_bits_meet.Statement.{statement}
 use Rattle.probe.proofs.on_bits.probe_bits_meet.Tie as tie
 
 pub probe_bits_meet_spec : {M : Type 1} → statement M
-probe_bits_meet_spec = tie.close (tie.spec (λ c. inl (omega arith, (refl, refl))) (λ c κs. search rules) (λ c κs. search rules) (λ c. search rules) (λ c. search rules) (λ c. let at-tell = c.before.before in let at-intersect-bits = at-tell.before.before.before.before in inr (omega arith, (at-intersect-bits.intersect-bits.result, at-intersect-bits.intersect-bits.ensures, at-tell.tell.ensures))))
+probe_bits_meet_spec = tie.close (tie.spec (λ c. inl (omega arith, (refl, refl))) (λ c κs. search rules) (λ c κs. search rules) (λ c. search rules) (λ c. search rules) (λ c. let at-tell = c.before.before in let at-intersect-bits = at-tell.before.before.before.before in inr (omega arith, (at-intersect-bits.intersect_bits-r.result, at-intersect-bits.intersect_bits-r.ensures, at-tell.tell.ensures))))

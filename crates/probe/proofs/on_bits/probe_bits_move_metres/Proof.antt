@@ -7,4 +7,4 @@ use Rattle.probe.proofs.on_bits.probe_bits_move_metres.Statement.{statement}
 use Rattle.probe.proofs.on_bits.probe_bits_move_metres.Tie as tie
 
 pub probe_bits_move_metres_spec : {M : Type 1} → statement M
-probe_bits_move_metres_spec = tie.close (tie.spec (λ c. inl (omega arith, (refl, refl))) (λ c κs. search rules) (λ c κs. search rules) (λ c. search rules) (λ c. search rules) (λ c. let at-tell = c.before.before in let at-move-bits = at-tell.before.before.before.before in inr (omega arith, (at-move-bits.move-bits.result, at-move-bits.move-bits.ensures, at-tell.tell.ensures))))
+probe_bits_move_metres_spec = tie.close (tie.spec (λ c. inl (omega arith, (refl, refl))) (λ c κs. search rules) (λ c κs. search rules) (λ c. search rules) (λ c. search rules) (λ c. let at-tell = c.before.before in let at-move-bits = at-tell.before.before.before.before in inr (omega arith, (at-move-bits.move_bits-r.result, at-move-bits.move_bits-r.ensures, at-tell.tell.ensures))))

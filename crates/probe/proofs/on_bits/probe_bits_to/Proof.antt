@@ -7,4 +7,4 @@ use Rattle.probe.proofs.on_bits.probe_bits_to.Statement.{statement}
 use Rattle.probe.proofs.on_bits.probe_bits_to.Tie as tie
 
 pub probe_bits_to_spec : {M : Type 1} → statement M
-probe_bits_to_spec = tie.close (tie.spec (λ c. inl (omega arith, (refl, refl))) (λ c κs. search rules) (λ c κs. search rules) (λ c. search rules) (λ c. search rules) (λ c. let at-tell = c.before.before in let at-to-list = at-tell.before.before.before.before in inr (omega arith, (at-to-list.to-list.result, at-to-list.to-list.ensures, at-tell.tell.ensures))))
+probe_bits_to_spec = tie.close (tie.spec (λ c. inl (omega arith, (refl, refl))) (λ c κs. search rules) (λ c κs. search rules) (λ c. search rules) (λ c. search rules) (λ c. let at-tell = c.before.before in let at-to-list = at-tell.before.before.before.before in inr (omega arith, (at-to-list.to_list-r.result, at-to-list.to_list-r.ensures, at-tell.tell.ensures))))

@@ -12,4 +12,4 @@ probe_read_spec =
     (tie.spec
     (λ c. inl (omega arith, (refl, refl)))
     (λ c κs. search rules) (λ c. search rules) (λ c κs. search rules) (λ c. search rules) (λ c. search rules)
-    (λ c. let at-tell = c.before.before in let at_read = at-tell.before.before.before.before.before.before in inr (omega arith, (at_read.read.result, at_read.read.ensures, at-tell.tell.ensures))))
+    (λ c. let at-tell = c.before.before in let at_read = at-tell.before.before.before.before.before.before in inr (omega arith, (at_read.read-r.result, at_read.read-r.ensures, at-tell.tell.ensures))))

@@ -8,7 +8,7 @@ use Rattle.cells.proofs.Words.{signed_axes}
 use Rattle.probe.proofs.on_cells.probe_neighbour.Statement.{statement}
 use Rattle.probe.proofs.on_cells.probe_neighbour.Tie as tie
 
-returns_2 : tie.Need-returns-2
+returns_2 : tie.Need-returns
 returns_2 c =
     let at-tell = c.before.before in
     let at_neighbour = at-tell.before in

@@ -12,4 +12,4 @@ probe_lookup_spec =
     (tie.spec
     (λ c. inl (omega arith, refl))
     (λ c κs. search rules) (λ c. search rules) (λ c κs. search rules) (λ c. search rules)
-    (λ c. let at-tell = c.before.before in let found = at-tell.before.before.before.before.lookup in inr (omega arith, (found.result, found.ensures, at-tell.tell.ensures))))
+    (λ c. let at-tell = c.before.before in let found = at-tell.before.before.before.before.lookup-r in inr (omega arith, (found.result, found.ensures, at-tell.tell.ensures))))

@@ -8,7 +8,7 @@ use Rattle.records.specs.Met.{MetOf, MetAtOf}
 use Rattle.probe.proofs.on_records.probe_met.Statement.{statement}
 use Rattle.probe.proofs.on_records.probe_met.Tie as tie
 
-returns_2 : tie.Need-returns-2
+returns_2 : tie.Need-returns
 returns_2 c =
     let at-tell = c.before.before in
     let at-met-at = at-tell.before.before in
@@ -17,8 +17,8 @@ returns_2 c =
     let start = at-met.before.before.before.before.before in
     let g = start.args in
     let f = start.ranges in
-    let at = signed_axes (λ d. MetAtOf g.depth g.list.now g.code d at-met-at.met_at.result) _ _ _ f.dx f.dy f.dz at-met-at.met_at.ensures in
-    let found = signed_axes (λ d. MetOf g.depth g.list.now g.list.ref_ptr g.code d at-met.met.result.now at-met.met.result.ref_ptr) _ _ _ f.dx f.dy f.dz at-met.met.ensures in
+    let at = signed_axes (λ d. MetAtOf g.depth g.list.now g.code d at-met-at.met_at-a.result) _ _ _ f.dx f.dy f.dz at-met-at.met_at-a.ensures in
+    let found = signed_axes (λ d. MetOf g.depth g.list.now g.list.ref_ptr g.code d at-met.met-found.result.now at-met.met-found.result.ref_ptr) _ _ _ f.dx f.dy f.dz at-met.met-found.ensures in
     inr (omega arith, (_, _, _, at, found, at-tell.tell.ensures, at_copy.copy.ensures))
 
 pub probe_met_spec : {M : Type 1} → statement M

@@ -7,4 +7,4 @@ use Rattle.probe.proofs.on_text.probe_list_text.Statement.{statement}
 use Rattle.probe.proofs.on_text.probe_list_text.Tie as tie
 
 pub probe_list_text_spec : {M : Type 1} → statement M
-probe_list_text_spec = tie.close (tie.spec (λ c. inl (omega arith, (refl, refl))) (λ c κs. search rules) (λ c κs. search rules) (λ c. search rules) (λ c. search rules) (λ c. let at-tell = c.before.before in let at_list_text = at-tell.before.before.before.before in inr (omega arith, (at_list_text.list-text.result, at_list_text.list-text.ensures, at-tell.tell.ensures))))
+probe_list_text_spec = tie.close (tie.spec (λ c. inl (omega arith, (refl, refl))) (λ c κs. search rules) (λ c κs. search rules) (λ c. search rules) (λ c. search rules) (λ c. let at-tell = c.before.before in let at_list_text = at-tell.before.before.before.before in inr (omega arith, (at_list_text.list_text-r.result, at_list_text.list_text-r.ensures, at-tell.tell.ensures))))
