@@ -9,23 +9,23 @@ use Rattle.blocks.proofs.CallLaws.{judges_file}
 use Rattle.blocks.proofs.measurer.stored_volume.Statement.{statement}
 use Rattle.blocks.proofs.measurer.stored_volume.Tie as tie
 
-module _ (c : tie.After-answer) where
+module _ (c : tie.After-answer-1) where
   abbrev b : List ℕ
   b = c.before.before.before.args.bytes.now
 
   abbrev Done : Answer → Type 0
   Done r = r ≡ given (blacks (depth_of b) (codes b))
 
-returns : tie.Need-returns
+returns : tie.Need-returns-then-number-ne0
 returns c =
     let at_answer = c.before in
-    let r = at_answer.before.holding-of in
-    opening_refuses (judges_file (b at_answer)) r.result.answer r.ensures.tells alone [] (Done at_answer) c.if1.true
+    let r = at_answer.before.holding_of-held in
+    opening_refuses (judges_file (b at_answer)) r.result.answer r.ensures.tells alone [] (Done at_answer) c.if-number-ne0.true
 
-returns_2 : tie.Need-returns-2
+returns_2 : tie.Need-returns
 returns_2 c =
     let at_answer = c.before.before in
-    let r = at_answer.before.holding-of in
+    let r = at_answer.before.holding_of-held in
     let z : r.result.answer.number ≡ 0 = search rules in
     let (k, _) = opening_known (judges_file (b at_answer)) r.result.answer r.ensures.tells z in
     opening_passes (judges_file (b at_answer)) r.result.answer r.ensures.tells alone [] (Done at_answer) _ z

@@ -10,7 +10,7 @@ use Rattle.blocks.proofs.inner.soundness.is_sound.Tie as tie
 
 -- ---- the block's words
 
-module _ (c : tie.After-word-at4) where
+module _ (c : tie.After-word_at-k) where
   abbrev start : tie.Start
   start = c.before.before.before.before.before
 
@@ -22,19 +22,19 @@ module _ (c : tie.After-word-at4) where
 
 -- ---- what `right_count` and `unused_zero` told of them
 
-module _ (c : tie.After-right-count) where
-  abbrev at_word_at4 : tie.After-word-at4
+module _ (c : tie.After-right_count) where
+  abbrev at_word_at4 : tie.After-word_at-k
   at_word_at4 = c.before.before.before.before.before
 
-  is_count : c.right_count_lem.result ≡ right_count (start at_word_at4).args.n (start at_word_at4).args.i (v at_word_at4 3)
-  is_count = c.right_count_lem.ensures ∙ ap (right_count (start at_word_at4).args.n (start at_word_at4).args.i) at_word_at4.word-at4.ensures
+  is_count : c.right_count.result ≡ right_count (start at_word_at4).args.n (start at_word_at4).args.i (v at_word_at4 3)
+  is_count = c.right_count.ensures ∙ ap (right_count (start at_word_at4).args.n (start at_word_at4).args.i) at_word_at4.word_at-k.ensures
 
-module _ (c : tie.After-unused-zero) where
-  abbrev at_right_count : tie.After-right-count
+module _ (c : tie.After-unused_zero) where
+  abbrev at_right_count : tie.After-right_count
   at_right_count = c.before.before
 
-  is_unused : c.unused-zero.result ≡ unused_zero (v (at_word_at4 at_right_count))
-  is_unused = c.unused-zero.ensures ∙ ap (λ (n : ℕ). all_from (λ j. eqb (v (at_word_at4 at_right_count) j) 0) (4 + n) (block_codes - n)) (at_word_at4 at_right_count).word-at4.ensures
+  is_unused : c.unused_zero.result ≡ unused_zero (v (at_word_at4 at_right_count))
+  is_unused = c.unused_zero.ensures ∙ ap (λ (n : ℕ). all_from (λ j. eqb (v (at_word_at4 at_right_count) j) 0) (4 + n) (block_codes - n)) (at_word_at4 at_right_count).word_at-k.ensures
 
 pub is_sound_spec : {M : Type 1} → statement M
 is_sound_spec =
@@ -45,17 +45,17 @@ is_sound_spec =
     (λ c. wrong_block c.before.before.before (λ p. omega arith))
     (λ c. wrong_block c.before.before.before.before (λ p. omega arith))
     (λ c κs. search rules)
-    (λ c. let at_right_count = c.before in wrong_block (at_word_at4 at_right_count) (λ p. clash p.count (sym (is_count at_right_count) ∙ not-true _ c.if5.true)))
+    (λ c. let at_right_count = c.before in wrong_block (at_word_at4 at_right_count) (λ p. clash p.count (sym (is_count at_right_count) ∙ c.if-not-right_count.true)))
     (λ c κs.
     let at_right_count = c.before in
     let a = (start (at_word_at4 at_right_count)).args in
-    (omega (arith, (start (at_word_at4 at_right_count)).pre), omega (arith, right_most a.n a.i (v (at_word_at4 at_right_count) 3) (sym (is_count at_right_count) ∙ not-false _ c.if5.false), (at_word_at4 at_right_count).word-at4.ensures)))
-    (λ c. let at-unused-zero = c.before in wrong_block (at_word_at4 (at_right_count at-unused-zero)) (λ p. clash p.zeros (sym (is_unused at-unused-zero) ∙ not-true _ c.if6.true)))
+    (omega (arith, (start (at_word_at4 at_right_count)).requires), omega (arith, right_most a.n a.i (v (at_word_at4 at_right_count) 3) (sym (is_count at_right_count) ∙ c.if-not-right_count.false), (at_word_at4 at_right_count).word_at-k.ensures)))
+    (λ c. let at-unused-zero = c.before in wrong_block (at_word_at4 (at_right_count at-unused-zero)) (λ p. clash p.zeros (sym (is_unused at-unused-zero) ∙ c.if-not-unused_zero.true)))
     (λ c κs. search rules)
     (λ c.
     let at-unused-zero = c.before.before in
     let counted = at_right_count at-unused-zero in
     let a = (start (at_word_at4 counted)).args in
-    c.right_check_lem.ensures
-    ∙ sound_last (v (at_word_at4 counted)) a.i a.n a.depth (omega arith) (omega arith) (omega arith) (omega arith) (sym (is_count counted) ∙ not-false _ at-unused-zero.before.if5.false)
-    (sym (is_unused at-unused-zero) ∙ not-false _ c.before.if6.false)))
+    c.right_check.ensures
+    ∙ sound_last (v (at_word_at4 counted)) a.i a.n a.depth (omega arith) (omega arith) (omega arith) (omega arith) (sym (is_count counted) ∙ at-unused-zero.before.if-not-right_count.false)
+    (sym (is_unused at-unused-zero) ∙ c.before.if-not-unused_zero.false)))

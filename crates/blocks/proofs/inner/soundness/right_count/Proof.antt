@@ -11,11 +11,11 @@ right_count_spec =
     tie.close
     (tie.spec
     (λ c. search rules)
-    (λ c. let a = c.before.args in rw (right_count, lt-ltb (a.i + 1) a.n c.if1.true))
-    (λ c. let a = c.before.before.args in rw (right_count, le-ltb (a.i + 1) a.n c.before.if1.false, lt-leb a.k block_codes (omega (arith, c.if2.true))))
+    (λ c. let a = c.before.args in rw (right_count, lt-ltb (a.i + 1) a.n c.if-i-n.true))
+    (λ c. let a = c.before.before.args in rw (right_count, le-ltb (a.i + 1) a.n c.before.if-i-n.false, lt-leb a.k block_codes (omega (arith, c.if-k-gt-BLOCK_CODES.true))))
     (λ c.
     let a = c.before.before.before.args in
-    rw (right_count, le-ltb (a.i + 1) a.n c.before.before.if1.false, le-leb a.k block_codes c.before.if2.false, le-leb 1 a.k c.if3.true))
+    rw (right_count, le-ltb (a.i + 1) a.n c.before.before.if-i-n.false, le-leb a.k block_codes c.before.if-k-gt-BLOCK_CODES.false, le-leb 1 a.k c.if-k-gt0.true))
     (λ c.
     let a = c.before.before.before.args in
-    rw (right_count, le-ltb (a.i + 1) a.n c.before.before.if1.false, le-leb a.k block_codes c.before.if2.false, lt-leb 1 a.k (omega (arith, c.if3.false)))))
+    rw (right_count, le-ltb (a.i + 1) a.n c.before.before.if-i-n.false, le-leb a.k block_codes c.before.if-k-gt-BLOCK_CODES.false, lt-leb 1 a.k (omega (arith, c.if-k-gt0.false)))))
