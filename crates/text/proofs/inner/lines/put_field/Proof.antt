@@ -11,8 +11,8 @@ returns c =
     let number = c.before.before in
     let word = number.before.before.before.before in
     let start = word.before.before.before.before in
-    let d = number.put-decimal.ensures 19 (omega (arith, start.ranges.n)) in
-    (put_append word.put_word.ensures d, omega (arith, word.put_word.ensures.place, d.place, digits_length 10 19 start.args.n))
+    let d = number.put_decimal.ensures 19 (omega (arith, start.ranges.n)) in
+    (put_append word.put_word-place.ensures d, omega (arith, word.put_word-place.ensures.place, d.place, digits_length 10 19 start.args.n))
 
 pub put_field_spec : {M : Type 1} → statement M
 put_field_spec = tie.close (tie.spec (λ c κs. search rules) (λ c κs. search rules) (λ c. search rules) returns)

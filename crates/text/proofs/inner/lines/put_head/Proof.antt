@@ -10,12 +10,11 @@ returns c =
     let volume = end.before.before.before.before in
     let leaves = volume.before.before.before.before.before in
     let depth = leaves.before.before.before.before.before in
-    (put_append (put_append (put_append depth.put-field.ensures.0 leaves.put-field2.ensures.0) volume.put-field3.ensures.0) end.put.ensures, search rules)
+    (put_append (put_append (put_append depth.put_field-a.ensures.0 leaves.put_field-b.ensures.0) volume.put_field-c.ensures.0) end.put.ensures, search rules)
 
 pub put_head_spec : {M : Type 1} → statement M
 put_head_spec =
     tie.close
     (tie.spec
-    (λ c. search rules) (λ c κs. search rules) (λ c. search rules) (λ c κs. search rules) (λ c. search rules) (λ c κs. search rules)
-    (λ c κs. search rules) (λ c. search rules)
+    (λ c κs. search rules) (λ c κs. search rules) (λ c κs. search rules) (λ c κs. search rules) (λ c. search rules)
     returns)

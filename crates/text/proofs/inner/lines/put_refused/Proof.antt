@@ -11,11 +11,11 @@ returns c =
     let end = c.before.before in
     let place = end.before.before.before.before in
     let number = place.before.before.before.before.before in
-    put_append (put_append number.put-field.ensures.0 place.put-field2.ensures.0) end.put.ensures
+    put_append (put_append number.put_field-a.ensures.0 place.put_field-b.ensures.0) end.put.ensures
 
 pub put_refused_spec : {M : Type 1} → statement M
 put_refused_spec =
     tie.close
     (tie.spec
-    (λ c. search rules) (λ c κs. search rules) (λ c. search rules) (λ c κs. search rules) (λ c κs. search rules) (λ c. search rules)
+    (λ c κs. search rules) (λ c κs. search rules) (λ c κs. search rules) (λ c. search rules)
     returns)

@@ -26,12 +26,12 @@ below t = and 1 put-decimal-kinds.ps (falls 1 put-decimal-kinds.ps ◌<◌ μ t)
 abbrev calls : ℕ → lts.Claims
 calls t = (put_reads.Asked, put_reads.Learnt, below t, put-decimal.Post)
 
-returns : (t : ℕ) → lts.Need-returns (calls t) (here t) put-decimal.Post
+returns : (t : ℕ) → lts.Need-returns-then-n-lt10 (calls t) (here t) put-decimal.Post
 returns t c =
     λ f h.
     let at_put = c.before.before in
     let at_if1 = at_put.before.before in
-    put_as (sym (digits_last f at_if1.before.before.args.n at_if1.if1.true)) at_put.put.ensures
+    put_as (sym (digits_last f at_if1.before.before.args.n at_if1.if-n-lt10.true)) at_put.put.ensures
 
 -- the number without its last digit has 19 digits at most
 put_requires_2 : (t : ℕ) → lts.Need-put-requires-2 (calls t) (here t) put-decimal.Post
@@ -39,16 +39,16 @@ put_requires_2 t c κs =
     let at-put-decimal = c.before.before.before in
     let start = at-put-decimal.before.before.before.before in
     let n = start.args.n in
-    let p = at-put-decimal.put-decimal.ensures 18 (omega (arith, start.ranges.n)) in
+    let p = at-put-decimal.put_decimal-place.ensures 18 (omega (arith, start.ranges.n)) in
     omega (arith, p.place, digits_length 10 18 (n / 10), start.requires.1)
 
-returns_2 : (t : ℕ) → lts.Need-returns-2 (calls t) (here t) put-decimal.Post
+returns_2 : (t : ℕ) → lts.Need-returns (calls t) (here t) put-decimal.Post
 returns_2 t c =
     λ f h.
     let at-put2 = c.before.before in
     let at-put-decimal = at-put2.before.before.before.before in
     let at_if1 = at-put-decimal.before.before in
-    put_digits at_if1.before.before.args.n f at_if1.if1.false h at-put-decimal.put-decimal.ensures at-put2.put2.ensures
+    put_digits at_if1.before.before.args.n f at_if1.if-n-lt10.false h at-put-decimal.put_decimal-place.ensures at-put2.put-2.ensures
 
 pub +put_decimal_spec : {M : Type 1} → statement M
 +put_decimal_spec =

@@ -26,25 +26,25 @@ below t = and 1 put-labels-kinds.ps (falls 1 put-labels-kinds.ps ◌<◌ μ t) p
 abbrev calls : ℕ → lts.Claims
 calls t = (below t, put-labels.Post, put_reads.Asked, put_reads.Learnt)
 
-returns : (t : ℕ) → lts.Need-returns (calls t) (here t) put-labels.Post
+returns : (t : ℕ) → lts.Need-returns-then-code-lt8 (calls t) (here t) put-labels.Post
 returns t c =
-    (λ k i l. put_as (sym (labels_none c.before.before.args.code c.if1.true k i l)) put_none, λ f h. omega arith)
+    (λ k i l. put_as (sym (labels_none c.before.before.args.code c.if-code-lt8.true k i l)) put_none, λ f h. omega arith)
 
 -- the code without its last label has one label less
 put_requires : (t : ℕ) → lts.Need-put-requires (calls t) (here t) put-labels.Post
 put_requires t c κs =
     let at-put-labels = c.before.before.before in
     let start = at-put-labels.before.before.before.before in
-    omega (arith, at-put-labels.put-labels.ensures.1 9 (omega (arith, start.ranges.code)), start.requires.1)
+    omega (arith, at-put-labels.put_labels-place.ensures.1 9 (omega (arith, start.ranges.code)), start.requires.1)
 
-returns_2 : (t : ℕ) → lts.Need-returns-2 (calls t) (here t) put-labels.Post
+returns_2 : (t : ℕ) → lts.Need-returns (calls t) (here t) put-labels.Post
 returns_2 t c =
     let at_put = c.before.before in
     let at-put-labels = at_put.before.before.before.before in
     let at_if1 = at-put-labels.before.before in
     let start = at_if1.before.before in (
-      λ k i l. put_label start.args.code at_if1.if1.false k i l at-put-labels.put-labels.ensures.0 at_put.put.ensures,
-      λ f h. omega (arith, at_put.put.ensures.place, label_near start.args.code f start.args.at at-put-labels.put-labels.result at_if1.if1.false h at-put-labels.put-labels.ensures.1),
+      λ k i l. put_label start.args.code at_if1.if-code-lt8.false k i l at-put-labels.put_labels-place.ensures.0 at_put.put.ensures,
+      λ f h. omega (arith, at_put.put.ensures.place, label_near start.args.code f start.args.at at-put-labels.put_labels-place.result at_if1.if-code-lt8.false h at-put-labels.put_labels-place.ensures.1),
     )
 
 pub +put_labels_spec : {M : Type 1} → statement M
@@ -56,7 +56,7 @@ pub +put_labels_spec : {M : Type 1} → statement M
     (here t)
     put-labels.Post
     (returns t)
-    (λ c κs. let start = c.before.before.before in (omega (arith, start.requires.0, c.before.if1.false), start.requires.1))
+    (λ c κs. let start = c.before.before.before in (omega (arith, start.requires.0, c.before.if-code-lt8.false), start.requires.1))
     (λ c. omega arith)
     (λ c. omega arith)
     (put_requires t)

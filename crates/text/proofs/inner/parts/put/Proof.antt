@@ -7,9 +7,9 @@ use lib.Seq.{set_out}
 use Rattle.text.proofs.inner.parts.put.Statement.{statement}
 use Rattle.text.proofs.inner.parts.put.Tie as tie
 
-module _ (c : tie.Joined1) where
-  stored : c.if1.bytes ≡ set c.before.args.bytes.now c.before.args.at c.before.args.byte
-  stored = ⊎_elim (λ w. w.1) (λ w. w.1 ∙ sym (set_out _ _ _ w.0.left)) c.if1.branch
+module _ (c : tie.Joined-at-bytes) where
+  stored : c.if-at-bytes.bytes ≡ set c.before.args.bytes.now c.before.args.at c.before.args.byte
+  stored = ⊎_elim (λ w. w.bytes-is) (λ w. w.bytes-is ∙ sym (set_out _ _ _ w.if-at-bytes.false)) c.if-at-bytes.branch-raw
 
 pub put_spec : {M : Type 1} → statement M
 put_spec = tie.close (tie.spec (λ c. search rules) (λ c. search rules) (λ c. ap length (stored c) ∙ simp length-set) (λ c. record { bytes = stored c; place = refl }))
