@@ -7,27 +7,27 @@ use Rattle.df.proofs.CallLaws.{read_refused, read_crowded, read_written}
 use Rattle.df.proofs.df_read.Statement.{statement}
 use Rattle.df.proofs.df_read.Tie as tie
 
-returns : tie.Need-returns
-returns c = let a = c.before.before.before.before.args in inl (_, (c.before.if1.true, refl), ap (keeping a.out.now) c.refusal.ensures)
+returns : tie.Need-returns-then-depth-gt-DEEPEST
+returns c = let a = c.before.before.before.before.args in inl (_, (c.before.if-depth-gt-DEEPEST.true, refl), ap (keeping a.out.now) c.refusal.ensures)
 
-returns_2 : tie.Need-returns-2
+returns_2 : tie.Need-returns-then-number-ne0
 returns_2 c =
     let at-read-text = c.before.before.before in
-    read_refused _ _ _ at-read-text.before.before.if1.false at-read-text.read-text.ensures c.if2.true at-read-text.read-text.auto.1.1.0
+    read_refused _ _ _ at-read-text.before.before.if-depth-gt-DEEPEST.false at-read-text.read_text-counted.ensures c.if-number-ne0.true at-read-text.read_text-counted.auto.out
 
-returns_3 : tie.Need-returns-3
+returns_3 : tie.Need-returns-then-out-need
 returns_3 c =
     let else2 = c.before.before in
     let at-read-text = else2.before.before.before in
-    read_crowded _ _ _ at-read-text.before.before.if1.false at-read-text.read-text.ensures else2.if2.false c.refusal2.ensures c.before.if3.true
+    read_crowded _ _ _ at-read-text.before.before.if-depth-gt-DEEPEST.false at-read-text.read_text-counted.ensures else2.if-number-ne0.false c.refusal-then-out-need.ensures c.before.if-out-need.true
 
-returns_4 : tie.Need-returns-4
+returns_4 : tie.Need-returns
 returns_4 c =
     let at-read-text2 = c.before.before in
     let else3 = at-read-text2.before.before in
     let else2 = else3.before in
     let at-read-text = else2.before.before.before in
-    read_written _ _ _ at-read-text.before.before.if1.false at-read-text.read-text.ensures else2.if2.false else3.if3.false at-read-text2.read-text2.ensures
+    read_written _ _ _ at-read-text.before.before.if-depth-gt-DEEPEST.false at-read-text.read_text-counted.ensures else2.if-number-ne0.false else3.if-out-need.false at-read-text2.read_text.ensures
 
 pub df_read_spec : {M : Type 1} → statement M
 df_read_spec =

@@ -19,7 +19,7 @@ use Rattle.df.proofs.df_write.Tie as tie
 
 -- ---- what `check` told
 
-module _ (c : tie.After-check) where
+module _ (c : tie.After-check-listed) where
   abbrev start : tie.Start
   start = c.before.before.before
 
@@ -35,40 +35,40 @@ module _ (c : tie.After-check) where
 
 -- ---- a good list
 
-module _ (c : tie.Else1) where
-  abbrev at_check : tie.After-check
+module _ (c : tie.Else-number-ne0) where
+  abbrev at_check : tie.After-check-listed
   at_check = c.before
 
-  none : at_check.check.result.number ≡ 0
+  none : at_check.check-listed.result.number ≡ 0
   none = search rules
 
-  good : Checked (start at_check).args.depth (l at_check) at_check.check.result.place
-  good = opening_known (checks (start at_check).args.depth (l at_check)) at_check.check.result at_check.check.ensures none
+  good : Checked (start at_check).args.depth (l at_check) at_check.check-listed.result.place
+  good = opening_known (checks (start at_check).args.depth (l at_check)) at_check.check-listed.result at_check.check-listed.ensures none
 
   told : {r : Answer} {after : List ℕ} → Told at_check (r, after) → DfWriteOf (start at_check).args.depth (l at_check) (o at_check) r after
-  told w = opening_passes (checks (start at_check).args.depth (l at_check)) at_check.check.result at_check.check.ensures (keeping (o at_check)) [] (Told at_check) _ none w
+  told w = opening_passes (checks (start at_check).args.depth (l at_check)) at_check.check-listed.result at_check.check-listed.ensures (keeping (o at_check)) [] (Told at_check) _ none w
 
 -- no room: the first pass put nothing
-returns_2 : tie.Need-returns-2
+returns_2 : tie.Need-returns-then-bytes-need
 returns_2 c =
     let at-put-text = c.before.before.before.before in
     let else1 = at-put-text.before.before in
-    let x = at-put-text.put-text.ensures in
-    told else1 (spell x.tree, spelled_df x, text_short (spell x.tree) (o (at_check else1)) _ at-put-text.put-text.result x.put c.before.if2.true _ c.refusal.ensures)
+    let x = at-put-text.put_text-need.ensures in
+    told else1 (spell x.tree, spelled_df x, text_short (spell x.tree) (o (at_check else1)) _ at-put-text.put_text-need.result x.put c.before.if-bytes-need.true _ c.refusal.ensures)
 
 -- the second pass puts the text that the first one counted
-returns_3 : tie.Need-returns-3
+returns_3 : tie.Need-returns
 returns_3 c =
     let at-put-text2 = c.before.before.before in
     let at-if2 = at-put-text2.before.before in
     let at-put-text = at-if2.before.before.before in
     let else1 = at-put-text.before.before in
-    let x = at-put-text.put-text.ensures in
-    let y = at-put-text2.put-text2.ensures in
+    let x = at-put-text.put_text-need.ensures in
+    let y = at-put-text2.put_text.ensures in
     told else1 (
       spell x.tree,
       spelled_df x,
-      text_stands (spell x.tree) (o (at_check else1)) _ at-put-text.put-text.result x.put at-if2.if2.false _ at-put-text2.put-text2.result (put_as (one_df _ _ _ _ (spelled_df y) (spelled_df x)) y.put) _
+      text_stands (spell x.tree) (o (at_check else1)) _ at-put-text.put_text-need.result x.put at-if2.if-bytes-need.false _ at-put-text2.put_text.result (put_as (one_df _ _ _ _ (spelled_df y) (spelled_df x)) y.put) _
           c.success.ensures,
     )
 
@@ -77,13 +77,13 @@ df_write_spec =
     tie.close
     (tie.spec
     (λ c κs. search rules)
-    (λ c. let at_check = c.before in opening_refuses (checks (start at_check).args.depth (l at_check)) at_check.check.result at_check.check.ensures (keeping (o at_check)) [] (Told at_check) c.if1.true)
+    (λ c. let at_check = c.before in opening_refuses (checks (start at_check).args.depth (l at_check)) at_check.check-listed.result at_check.check-listed.ensures (keeping (o at_check)) [] (Told at_check) c.if-number-ne0.true)
     (λ c. search rules) (λ c. search rules)
     (λ c κs. let k = good c.before in (k.shallow, k.good))
     (λ c κs. search rules) (λ c. search rules)
     returns_2
     (λ c. search rules)
-    (λ c. sym (length-take-le _ _ c.before.if2.false))
+    (λ c. sym (length-take-le _ _ c.before.if-bytes-need.false))
     (λ c κs. let k = good c.before.before.before.before.before.before in (k.shallow, k.good))
     (λ c κs. search rules) (λ c. search rules)
     returns_3)

@@ -7,6 +7,6 @@ pub shared_spec : {M : Type 1} → statement M
 shared_spec =
     tie.close
     (tie.spec
-    (λ c. λ trees m x head. common_first trees m _ _ x head c.if1.true)
-    (λ c. λ trees m x head. common_more trees m _ _ x head c.if2.true)
-    (λ c. λ trees m x head. common_mixed trees m _ _ x head c.before.if1.false c.if2.false))
+    (λ c. λ trees m x head. common_first trees m _ _ x head c.if-alike-eq0.true)
+    (λ c. λ trees m x head. common_more trees m _ _ x head c.if-alike-head.true)
+    (λ c. λ trees m x head. common_mixed trees m _ _ x head c.before.if-alike-eq0.false c.if-alike-head.false))

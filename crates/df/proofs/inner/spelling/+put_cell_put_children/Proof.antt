@@ -52,24 +52,24 @@ children_calls t = (put_cell_below t, put-cell.Post)
 
 -- ---- the cell
 
-module _ (t : ℕ) (q : put-cell-lts.After-tint-slot (cell_calls t) (put_cell_at t) put-cell.Post) where
+module _ (t : ℕ) (q : put-cell-lts.After-tint_slot-t (cell_calls t) (put_cell_at t) put-cell.Post) where
   abbrev start : put-cell-lts.Start (cell_calls t) (put_cell_at t) put-cell.Post
   start = q.before.before.before.before
 
   abbrev spelling : Spelling start.args.depth start.args.l.now start.args.k start.args.s start.args.at
-  spelling = start.pre.1
+  spelling = start.requires.1
 
   -- what the tint says of the cell, of span 8 ^ k
-  told : (x : Tint) → q.tint-slot.result ≡ x → SlotTint start.args.depth start.args.l.now (8 ^ start.args.k) start.args.s x
-  told x e = subst (λ (w : ℕ). SlotTint start.args.depth start.args.l.now w start.args.s x) q.before.pow8.ensures (subst (SlotTint start.args.depth start.args.l.now _ start.args.s) e q.tint-slot.ensures)
+  told : (x : Tint) → q.tint_slot-t.result ≡ x → SlotTint start.args.depth start.args.l.now (8 ^ start.args.k) start.args.s x
+  told x e = subst (λ (w : ℕ). SlotTint start.args.depth start.args.l.now w start.args.s x) q.before.pow8.ensures (subst (SlotTint start.args.depth start.args.l.now _ start.args.s) e q.tint_slot-t.ensures)
 
 -- where it has leaves smaller than itself, it has children
-module _ (t : ℕ) (q : put-cell-lts.After-enum-told3 (cell_calls t) (put_cell_at t) put-cell.Post) where
-  abbrev at_tint_slot : put-cell-lts.After-tint-slot (cell_calls t) (put_cell_at t) put-cell.Post
-  at_tint_slot = q.before.before
+module _ (t : ℕ) (q : put-cell-lts.In-Mixed (cell_calls t) (put_cell_at t) put-cell.Post) where
+  abbrev at_tint_slot : put-cell-lts.After-tint_slot-t (cell_calls t) (put_cell_at t) put-cell.Post
+  at_tint_slot = q.before
 
   mixed : SlotTint (start t at_tint_slot).args.depth (start t at_tint_slot).args.l.now (8 ^ (start t at_tint_slot).args.k) (start t at_tint_slot).args.s Mixed
-  mixed = told t at_tint_slot Mixed q.enum-told3.given.1
+  mixed = told t at_tint_slot Mixed q.in-Mixed.is
 
   parent : 1 ≤ (start t at_tint_slot).args.k
   parent = slot_parent (spelling t at_tint_slot).held mixed
@@ -79,10 +79,10 @@ module _ (t : ℕ) (q : put-cell-lts.After-enum-told3 (cell_calls t) (put_cell_a
 
 -- ---- the children
 
-abbrev put_children_Inv_loop : put-children-lts.invariant-loop
+abbrev put_children_Inv_loop : put-children-lts.invariant-loop-m
 put_children_Inv_loop depth l k bytes₀ at parts place₀ m₀ bytes place m = TextsPut depth l k parts bytes₀ at m bytes place
 
-abbrev put_children_μ_loop : put-children-lts.decreases-loop
+abbrev put_children_μ_loop : put-children-lts.decreases-loop-m
 put_children_μ_loop depth l k bytes₀ at parts place₀ m₀ bytes place m = 8 - m
 
 pub +put_cell_put_children_spec : {M : Type 1} → statement M
@@ -101,26 +101,26 @@ pub +put_cell_put_children_spec : {M : Type 1} → statement M
     let at-put3 = c.before.before.before in
     let at-cut-slot = at-put3.before.before in
     let at_told = at-cut-slot.before in
-    (omega (arith, (start t (at_tint_slot t at_told)).pre.0, parent t at_told), spelling_children (spelling t (at_tint_slot t at_told)) (mixed t at_told) _ (level t at_told) at-cut-slot.cut-slot.result at-cut-slot.cut-slot.ensures at-put3.put3.ensures.place))
+    (omega (arith, (start t (at_tint_slot t at_told)).requires.0, parent t at_told), spelling_children (spelling t (at_tint_slot t at_told)) (mixed t at_told) _ (level t at_told) at-cut-slot.cut_slot-parts.result at-cut-slot.cut_slot-parts.ensures at-put3.put-next.ensures.place))
     (λ c. search rules)
     (λ c.
     let at_put = c.before.before in
     let at_told = at_put.before.before in
-    let at_tint_slot = at_told.before.before in
-    λ b. spelled_leaf (spelling t at_tint_slot).held.source false (told t at_tint_slot White at_told.enum_told.given.1) at_put.put.ensures)
+    let at_tint_slot = at_told.before in
+    λ b. spelled_leaf (spelling t at_tint_slot).held.source false (told t at_tint_slot White at_told.in-White.is) at_put.put.ensures)
     (λ c. search rules)
     (λ c.
     let at_put = c.before.before in
     let at_told = at_put.before.before in
-    let at_tint_slot = at_told.before.before in
-    λ b. spelled_leaf (spelling t at_tint_slot).held.source true (told t at_tint_slot Black at_told.enum-told2.given.1) at_put.put2.ensures)
+    let at_tint_slot = at_told.before in
+    λ b. spelled_leaf (spelling t at_tint_slot).held.source true (told t at_tint_slot Black at_told.in-Black.is) at_put.put-in-Black.ensures)
     (λ c. search rules)
     (λ c.
     let at-put-children = c.before.before in
     let at-put3 = at-put-children.before.before.before.before in
     let at-cut-slot = at-put3.before.before in
     let at_told = at-cut-slot.before in
-    λ b. spelled_gray (spelling t (at_tint_slot t at_told)) (mixed t at_told) _ (level t at_told) at-cut-slot.cut-slot.result at-cut-slot.cut-slot.ensures at-put3.put3.ensures (at-put-children.put-children.ensures b)))
+    λ b. spelled_gray (spelling t (at_tint_slot t at_told)) (mixed t at_told) _ (level t at_told) at-cut-slot.cut_slot-parts.result at-cut-slot.cut_slot-parts.ensures at-put3.put-next.ensures (at-put-children.put_children.ensures b)))
     (λ t.
     put-children-lts.spec (children_calls t) (put_children_at t) put-children.Post put_children_Inv_loop put_children_μ_loop
     (λ c. texts_none)
@@ -128,12 +128,12 @@ pub +put_cell_put_children_spec : {M : Type 1} → statement M
     (λ c κs.
     let in_loop = c.before.before in
     let start = in_loop.before.before.before.before in
-    (omega (arith, start.requires.0), texts_room start.requires.1 in_loop.before.loop.invariant in_loop.loop-test.true))
+    (omega (arith, start.requires.0), texts_room start.requires.1 in_loop.before.loop-m.invariant in_loop.loop-m-test.true))
     (λ c. search rules) (λ c. search rules)
     (λ c.
     let at-put-cell = c.before.before in
     let in_loop = at-put-cell.before.before.before in
     let start = in_loop.before.before.before.before in
-    texts_more start.requires.1 in_loop.before.loop.invariant in_loop.loop-test.true (search rules) at-put-cell.put-cell.ensures)
-    (λ c. c.before.loop.invariant.size)
-    (λ c. texts_all c.before.loop.invariant c.loop-test.false))
+    texts_more start.requires.1 in_loop.before.loop-m.invariant in_loop.loop-m-test.true (search rules) at-put-cell.put_cell-place.ensures)
+    (λ c. c.before.loop-m.invariant.size)
+    (λ c. texts_all c.before.loop-m.invariant c.loop-m-test.false))

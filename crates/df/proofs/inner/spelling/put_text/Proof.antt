@@ -14,4 +14,4 @@ put_text_spec =
     (λ c.
     let at-put-cell = c.before.before in
     let pre = at-put-cell.before.before.before.before.requires in
-    at-put-cell.put-cell.ensures 0 (whole_list (record { deep = pre.0; ordered = pre.1.ordered }))))
+    at-put-cell.put_cell.ensures 0 (whole_list (record { deep = pre.0; ordered = pre.1.ordered }))))
