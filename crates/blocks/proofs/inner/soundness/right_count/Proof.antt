@@ -12,10 +12,10 @@ right_count_spec =
     (tie.spec
     (λ c. search rules)
     (λ c. let a = c.before.args in rw (right_count, lt-ltb (a.i + 1) a.n c.if-i-n.true))
-    (λ c. let a = c.before.before.args in rw (right_count, le-ltb (a.i + 1) a.n c.before.if-i-n.false, lt-leb a.k block_codes (omega (arith, c.if-k-gt-BLOCK_CODES.true))))
+    (λ c. let a = c.before.before.args in rw (right_count, le-ltb (a.i + 1) a.n c.before.if-i-n.false, lt-leb a.k block_codes (omega arith)))
     (λ c.
     let a = c.before.before.before.args in
-    rw (right_count, le-ltb (a.i + 1) a.n c.before.before.if-i-n.false, le-leb a.k block_codes c.before.if-k-gt-BLOCK_CODES.false, le-leb 1 a.k c.if-k-gt0.true))
+    rw (right_count, le-ltb (a.i + 1) a.n c.before.before.if-i-n.false, le-leb a.k block_codes (omega arith), le-leb 1 a.k c.if-k-gt0.true))
     (λ c.
     let a = c.before.before.before.args in
-    rw (right_count, le-ltb (a.i + 1) a.n c.before.before.if-i-n.false, le-leb a.k block_codes c.before.if-k-gt-BLOCK_CODES.false, lt-leb 1 a.k (omega (arith, c.if-k-gt0.false)))))
+    rw (right_count, le-ltb (a.i + 1) a.n c.before.before.if-i-n.false, le-leb a.k block_codes (omega arith), lt-leb 1 a.k (omega (arith, c.if-k-gt0.false)))))

@@ -149,17 +149,17 @@ pub +read_cell_read_gray_spec : {M : Type 1} → statement M
     let at-if5 = c.before in
     let at-if4 = at-if5.before in
     let q = at-if4.before.before.before.before in
-    cell_stuck (stuck_here _ _ _ (ahead t q).within (neither t q at-if4.before.if-byte-eq-BLACK.false at-if4.before.before.if-byte-eq-WHITE.false) (λ e. at-if5.if-k-eq0.true)) c.wrong-then-k-eq0.ensures)
+    cell_stuck (stuck_here _ _ _ (ahead t q).within (neither t q at-if4.before.if-byte-eq-BLACK.false at-if4.before.before.if-byte-eq-WHITE.false) (λ e. omega arith)) (search rules))
     (λ c. search rules)
     (λ c κs.
     let else5 = c.before in
     let q = else5.before.before.before.before.before in
-    (omega (arith, (start t q).requires.0, else5.if-k-eq0.false), record { ahead = subst (λ (n : ℕ). Ahead (start t q).args.depth (start t q).args.text.now n (start t q).args.from (start t q).args.r) (sym (level t q else5.if-k-eq0.false)) (ahead t q); more = more t q; opens = else5.before.if-byte-ne-OPEN.false }))
+    (omega (arith, (start t q).requires.0), record { ahead = subst (λ (n : ℕ). Ahead (start t q).args.depth (start t q).args.text.now n (start t q).args.from (start t q).args.r) (sym (level t q (λ e. omega arith))) (ahead t q); more = more t q; opens = else5.before.if-byte-ne-OPEN.false }))
     (λ c. search rules)
     (λ c.
     let else5 = c.before.before.before.before in
     let q = else5.before.before.before.before.before in
-    subst (λ (n : ℕ). ReadCell (start t q).args.depth (start t q).args.text.now n (start t q).args.from (start t q).args.out.now (start t q).args.r c.before.before.read_gray.new.out c.before.before.read_gray.result) (level t q else5.if-k-eq0.false) c.before.before.read_gray.ensures))
+    subst (λ (n : ℕ). ReadCell (start t q).args.depth (start t q).args.text.now n (start t q).args.from (start t q).args.out.now (start t q).args.r c.before.before.read_gray.new.out c.before.before.read_gray.result) (level t q (λ e. omega arith)) c.before.before.read_gray.ensures))
     (λ t.
     read-gray-lts.spec (children_calls t) (read_gray_at t) read-gray.Post read_gray_Inv_loop read_gray_μ_loop
     (λ c κs. let a = c.before.before.requires.1.ahead in omega (arith, a.level, a.deep))
