@@ -1,9 +1,0 @@
--- `picturing::inner::bytes::front` meets its contract: the bytes lie within the buffer. Assumes nothing.
-use native.Mathlib.Omega.{arith}
-use lib.ListN.{length-take}
-use borrow.Author.Rules.{rules}
-use Rattle.picturing.proofs.inner.bytes.front.Statement.{statement}
-use Rattle.picturing.proofs.inner.bytes.front.Tie as tie
-
-pub front_spec : {M : Type 1} → statement M
-front_spec = tie.close (tie.spec (λ c. simp length-take (omega arith)) (λ c κs. search rules) (λ c. search rules) (λ c. search rules) (λ c. search rules))
