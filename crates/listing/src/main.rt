@@ -1,5 +1,5 @@
 // Reads one stored file on standard input, at most 65,536 bytes, and prints its listing, `refused N P` for a bad file, or `too long`.
-// An input that cannot be read on ends there; where the output is closed, the program ends.
+// An input that cannot be read on ends there; where the output cannot be written, the program ends with an error.
 #![tactic(auto)]
 
 ghost use Rattle.std.specs.Prelude.{◌≤◌, length};
