@@ -21,8 +21,7 @@ use Rattle.moves.specs.Moves.{MoveOf}
 use Rattle.moves.proofs.MoveLaws.{move_of}
 use Rattle.blocks.specs.Block.{whole}
 use Rattle.blocks.specs.File.{file_of}
-use Rattle.blocks.specs.Calls.{ReadOf, WriteOf}
-use Rattle.blocks.specs.declared.Reading.{Reading}
+use Rattle.blocks.specs.Calls.{ReadAnswer, ReadOf, WriteOf}
 use Rattle.blocks.proofs.Files.{file_length}
 use Rattle.blocks.proofs.Theorems.{reads_file}
 use Rattle.arrivals.specs.Arrivals.{Step, ArriveOf, MergeOf}
@@ -51,7 +50,7 @@ pub arrive_refuses : ArriveOf 3 [] east [] [] (answer 9 0 0, [], [])
 unfolding whole
 arrive_refuses = inl (_, inl (refl, refl), refl)
 
-abbrev reading : Reading
+abbrev reading : ReadAnswer
 reading = record { answer = given 0; depth = 3 }
 
 reads_none : ReadOf stored [] reading []

@@ -7,7 +7,7 @@ use native.Mathlib.Omega.{arith}
 use lib.ListN.{length, take}
 use Rattle.cells.specs.Answer.{answer, given, Test, Decided, keeping, deepest, TooDeep}
 use Rattle.cells.specs.declared.Answer.{Answer}
-use Rattle.cells.proofs.Decisions.{Numbered, Passed, passes, refuses_numbered, decided_first, decided_passed, decided_next, decided_past}
+use Rattle.cells.proofs.Decisions.{Numbered, Passed, passes, refuses_numbered, decided_passed, decided_next, decided_past}
 use Rattle.records.specs.Record.{ListOf}
 use Rattle.records.specs.Fault.{Faulty}
 use Rattle.records.specs.Writing.{stands, TooShort, WritesOf, WritesListOf}
@@ -19,8 +19,7 @@ use Rattle.metres.specs.declared.Move.{Move}
 use Rattle.moves.specs.Moves.{MoveOf}
 use Rattle.blocks.specs.Block.{depth_of, codes}
 use Rattle.blocks.specs.File.{file_of}
-use Rattle.blocks.specs.Calls.{Unsound, unread, ReadOf, WriteOf}
-use Rattle.blocks.specs.declared.Reading.{Reading}
+use Rattle.blocks.specs.Calls.{ReadAnswer, Unsound, unread, ReadOf, WriteOf}
 use Rattle.blocks.proofs.Sound.{unsound_numbered}
 use Rattle.blocks.proofs.Theorems.{ReadSuccess, read_success}
 use Rattle.arrivals.specs.Arrivals.{Step, leaving, OtherDepth, ArriveOf, MergeOf}
@@ -56,16 +55,12 @@ module _ (D : ℕ) (a b w o : List ℕ) where
 
 -- ---- a file that arrives: `read` left x and the buffer w'
 
-module _ (D : ℕ) (f : List ℕ) (m : Move) (w o : List ℕ) (x : Reading) (w' : List ℕ) (d : ReadOf f w x w') where
+module _ (D : ℕ) (f : List ℕ) (m : Move) (w o : List ℕ) (x : ReadAnswer) (w' : List ℕ) (d : ReadOf f w x w') where
   abbrev tests : List Test
   tests = of_read D f m w o
 
-  abbrev left : Reading × List ℕ → Type 0
+  abbrev left : ReadAnswer × List ℕ → Type 0
   left t = t ≡ (record { answer = given (length (codes f)); depth = depth_of f }, stands (codes f) w)
-
-  pub arrive_unread : (x.answer.number ≡ 0 → ⊥) → ArriveOf D f m w o (x.answer, w', o)
-  arrive_unread some =
-      decided_first (λ (t : Reading × List ℕ). (t.0.answer, t.1, o)) (unread w) tests [] left (Arrived D f m w o) (x, w') (λ e. absurd (some (ap (λ (t : Reading × List ℕ). t.0.answer.number) e))) d
 
   module _ (z : x.answer.number ≡ 0) where
     pub arrive_file : ReadSuccess f w x w'
@@ -95,13 +90,6 @@ module _ (D : ℕ) (a b w o : List ℕ) (r : Answer) (w' : List ℕ) where
 
   abbrev wide : Answer × List ℕ → Step
   wide t = (t.0, t.1, o)
-
-  pub merge_refused : SetOf Join D a b w r w' → (r.number ≡ 0 → ⊥) → MergeOf D a b w o (r, w', o)
-  merge_refused d some = decided_first wide (keeping w) its_tests [] (WritesListOf D (InResult Join D a b) w) (JoinedTo D a b w o) (r, w') refused d
-    where
-      refused : WritesListOf D (InResult Join D a b) w (r, w') → JoinedTo D a b w o (r, w', o)
-      refused (l, x, q) =
-          (l, x, decided_first wide (keeping w) (TooShort (length l) w ∷ []) [] (λ s. s ≡ (given (length l), stands l w)) (StoredAs D a b w o l) (r, w') (λ e. absurd (some (ap (λ (s : Answer × List ℕ). s.0.number) e))) q)
 
   -- the front of the buffer was written
   pub merge_written : SetOf Join D a b w r w' → r.number ≡ 0 → (s : Answer) (o' : List ℕ) → WriteOf D (take r.place w') o s o' → MergeOf D a b w o (s, w', o')

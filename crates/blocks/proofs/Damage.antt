@@ -4,10 +4,9 @@ use Rattle.cells.specs.Answer.{answer}
 use Rattle.cells.specs.declared.Answer.{Answer}
 use Rattle.cells.proofs.Power.{le_or_lt}
 use Rattle.blocks.specs.declared.Sums.{Sums}
-use Rattle.blocks.specs.declared.Reading.{Reading}
 use Rattle.blocks.specs.Block.{block_bytes, word, check, blocks, whole, sound_at, depth_of}
 use Rattle.blocks.specs.File.{byte_of}
-use Rattle.blocks.specs.Calls.{Unsound, BlockCheckOf, StoredVolumeOf, unread, ReadOf}
+use Rattle.blocks.specs.Calls.{ReadAnswer, Unsound, BlockCheckOf, StoredVolumeOf, unread, ReadOf}
 use Rattle.cells.proofs.Bools.{clash}
 use Rattle.blocks.specs.Inner.{Sound}
 use Rattle.blocks.proofs.Sound.{RightWords, wrong, right_words}
@@ -120,7 +119,7 @@ module _ (b b' : List ℕ) (i w : ℕ) (c : Changed b b' i w) where
     pub damage_measured : (r : Answer) → StoredVolumeOf b' r → r ≡ answer 9 i 0
     damage_measured r d = one_stored_volume b' r (answer 9 i 0) d (inl (_, nine, refl))
 
-    pub damage_read : (o : List ℕ) (r : Reading) (o' : List ℕ) → ReadOf b' o r o' → (r ≡ record { answer = answer 9 i 0; depth = 0 }) × (o' ≡ o)
+    pub damage_read : (o : List ℕ) (r : ReadAnswer) (o' : List ℕ) → ReadOf b' o r o' → (r ≡ record { answer = answer 9 i 0; depth = 0 }) × (o' ≡ o)
     damage_read o r o' d =
         let e = one_read b' o (r, o') (unread o (answer 9 i 0)) d (inl (_, nine, refl)) in
-        (ap (λ (t : Reading × List ℕ). t.0) e, ap (λ (t : Reading × List ℕ). t.1) e)
+        (ap (λ (t : ReadAnswer × List ℕ). t.0) e, ap (λ (t : ReadAnswer × List ℕ). t.1) e)

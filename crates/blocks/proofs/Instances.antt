@@ -14,8 +14,7 @@ use Rattle.records.proofs.Instances.{check_holds}
 use Rattle.blocks.specs.Block.{check, whole, depth_of, codes}
 use Rattle.blocks.specs.Inner.{Sound}
 use Rattle.blocks.specs.File.{plain, file_of}
-use Rattle.blocks.specs.Calls.{BlockCheckOf, StoredVolumeOf, ReadOf, WriteOf}
-use Rattle.blocks.specs.declared.Reading.{Reading}
+use Rattle.blocks.specs.Calls.{ReadAnswer, BlockCheckOf, StoredVolumeOf, ReadOf, WriteOf}
 use Rattle.blocks.proofs.Sound.{sound_passes}
 use Rattle.blocks.proofs.RoundTrip.{file_sound, file_depth, file_codes}
 use Rattle.blocks.proofs.CallLaws.{one_check_blocks, one_stored_volume, one_read, one_write}
@@ -77,7 +76,7 @@ read_holds = reads_file 3 one (7 ∷ 7 ∷ []) (omega arith) good (omega arith)
 
 pub read_fails : ReadOf (file_of 3 one) (7 ∷ 7 ∷ []) (record { answer = given 1; depth = 0 }) (559 ∷ 7 ∷ []) → ⊥
 read_fails h =
-    let e : ◌≡◌ {A = ℕ} 0 3 = ap (λ (t : Reading × List ℕ). t.0.depth) (one_read (file_of 3 one) (7 ∷ 7 ∷ []) _ _ h read_holds) in
+    let e : ◌≡◌ {A = ℕ} 0 3 = ap (λ (t : ReadAnswer × List ℕ). t.0.depth) (one_read (file_of 3 one) (7 ∷ 7 ∷ []) _ _ h read_holds) in
     omega arith
 
 -- 512 bytes and one more, which stays

@@ -12,9 +12,8 @@ use Rattle.records.proofs.Fronts.{Front, Written, left_front, FormSuccess, form_
 use Rattle.records.proofs.First.{not_faulty, faulty_numbered, good_passes}
 use Rattle.blocks.specs.Block.{block_bytes, depth_of, codes}
 use Rattle.blocks.specs.File.{blocks_of, file_of}
-use Rattle.blocks.specs.Calls.{Unsound, unread, ReadOf, WriteOf}
+use Rattle.blocks.specs.Calls.{ReadAnswer, Unsound, unread, ReadOf, WriteOf}
 use Rattle.blocks.specs.Inner.{Sound}
-use Rattle.blocks.specs.declared.Reading.{Reading}
 use Rattle.blocks.proofs.Sound.{shallow_file, unsound_numbered, sound_passes, not_unsound}
 use Rattle.blocks.proofs.Files.{file_length}
 use Rattle.blocks.proofs.RoundTrip.{file_sound, file_depth, file_codes, same_file}
@@ -27,23 +26,23 @@ pub write_success : (D : ℕ) (l o : List ℕ) (r : Answer) (after : List ℕ) �
 write_success D l o = form_success D l (file_of D l) o
 
 -- of `read`
-pub record ReadSuccess (b o : List ℕ) (r : Reading) (after : List ℕ) : Type 0 where
+pub record ReadSuccess (b o : List ℕ) (r : ReadAnswer) (after : List ℕ) : Type 0 where
   pub is_sound : Sound b
   pub good : Good (depth_of b) (codes b)
   pub is_depth : r.depth ≡ depth_of b
   pub is_left : Written (codes b) o r.answer after
   pub front : Front (codes b) r.answer.place after
 
-pub read_success : (b o : List ℕ) (r : Reading) (after : List ℕ) → ReadOf b o r after → r.answer.number ≡ 0 → ReadSuccess b o r after
+pub read_success : (b o : List ℕ) (r : ReadAnswer) (after : List ℕ) → ReadOf b o r after → r.answer.number ≡ 0 → ReadSuccess b o r after
 read_success b o r after d z =
     let ((unsound, (clean, _)), e) = decided_passed (λ t. t.0.answer.number) (unread o) (λ x. refl) (Unsound b ∷ Faulty (depth_of b) (codes b) 1 ∷ TooShort (length (codes b)) o ∷ [])
     (λ t. t ≡ (record { answer = given (length (codes b)); depth = depth_of b }, stands (codes b) o)) (r, after)
     (unsound_numbered b, (faulty_numbered (depth_of b) (codes b) 1, (refuses_numbered (λ x. omega arith), tt))) z d in
-    let left : Written (codes b) o r.answer after = ap (λ (t : Reading × List ℕ). (t.0.answer, t.1)) e in
+    let left : Written (codes b) o r.answer after = ap (λ (t : ReadAnswer × List ℕ). (t.0.answer, t.1)) e in
     record {
       is_sound = not_unsound b unsound;
       good = not_faulty (depth_of b) (codes b) 1 clean;
-      is_depth = ap (λ (t : Reading × List ℕ). t.0.depth) e;
+      is_depth = ap (λ (t : ReadAnswer × List ℕ). t.0.depth) e;
       is_left = left;
       front = left_front (codes b) o r.answer after left;
     }
@@ -70,15 +69,15 @@ writes_codes b o s small g room =
 
 -- a good list that was written, read from the bytes written: itself, with its depth
 pub written_read : (D : ℕ) (l o : List ℕ) (r : Answer) (o' : List ℕ) → WriteOf D l o r o' → r.number ≡ 0
-    → (q : List ℕ) (s : Reading) (q' : List ℕ) → ReadOf (take r.place o') q s q' → length l ≤ length q
+    → (q : List ℕ) (s : ReadAnswer) (q' : List ℕ) → ReadOf (take r.place o') q s q' → length l ≤ length q
     → (s ≡ record { answer = given (length l); depth = D }) × (q' ≡ stands l q)
 written_read D l o r o' w z q s q' d room =
     let k = write_success D l o r o' w z in
     let e = one_read (file_of D l) q (s, q') (record { answer = given (length l); depth = D }, stands l q) (subst (λ (b : List ℕ). ReadOf b q s q') k.front.is_front d) (reads_file D l q k.shallow k.good room) in
-    (ap (λ (t : Reading × List ℕ). t.0) e, ap (λ (t : Reading × List ℕ). t.1) e)
+    (ap (λ (t : ReadAnswer × List ℕ). t.0) e, ap (λ (t : ReadAnswer × List ℕ). t.1) e)
 
 -- a file of bytes that was read, its list written at its depth: itself
-pub read_written : (b o : List ℕ) (r : Reading) (o' : List ℕ) → ReadOf b o r o' → r.answer.number ≡ 0 → ((k : ℕ) → get_or b k 0 < 256)
+pub read_written : (b o : List ℕ) (r : ReadAnswer) (o' : List ℕ) → ReadOf b o r o' → r.answer.number ≡ 0 → ((k : ℕ) → get_or b k 0 < 256)
     → (q : List ℕ) (a : Answer) (q' : List ℕ) → WriteOf r.depth (take r.answer.place o') q a q' → length b ≤ length q
     → (a ≡ given (length b)) × (q' ≡ stands b q)
 read_written b o r o' d z small q a q' w room =

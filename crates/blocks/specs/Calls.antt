@@ -1,7 +1,9 @@
 -- What the calls on stored files leave: `check_blocks`, `stored_volume`, `read` and `write`. Document 01, "Stored blocks" and "Numbers a call gives". Definitions only.
-use Rattle.std.specs.Prelude.{◌≡◌, ℕ, ◌^◌, true, false, ◌⊎◌, List, [], ◌∷◌, length}
+use Rattle.std.specs.Prelude.{◌≡◌, ℕ, ◌^◌, true, false, ◌⊎◌, List, [], ◌∷◌, length, Result, Ok, Err}
 use Rattle.cells.specs.Answer.{answer, given, Test, Decided, alone, keeping, refuses, refuses_first, deepest, TooDeep}
+use Rattle.cells.specs.Refusals.{refused}
 use Rattle.cells.specs.declared.Answer.{Answer}
+use Rattle.cells.specs.declared.refusals.Refusal.{Refusal}
 use Rattle.records.specs.Record.{black}
 use Rattle.records.specs.Count.{count}
 use Rattle.records.specs.Fault.{Faulty}
@@ -22,12 +24,22 @@ BlockCheckOf b = Decided alone (Unsound b ∷ []) (λ r. r ≡ given (length (co
 abbrev pub StoredVolumeOf : List ℕ → Answer → Type 0
 StoredVolumeOf b = Decided alone (Unsound b ∷ Faulty (depth_of b) (codes b) 1 ∷ []) (λ r. r ≡ given (count (black (depth_of b) (codes b)) (8 ^ depth_of b)))
 
+-- an answer, and the depth read beside it
+pub record ReadAnswer : Type 0 where
+  pub answer : Answer
+  pub depth : ℕ
+
 -- the depth read is 0 where the call is refused, and the buffer o as it was
-abbrev pub unread : List ℕ → Answer → Reading × List ℕ
+abbrev pub unread : List ℕ → Answer → ReadAnswer × List ℕ
 unread o a = (record { answer = a; depth = 0 }, o)
 
+-- what the call's result tells
+abbrev pub read_answer : Result Reading Refusal → ReadAnswer
+read_answer (Ok r) = record { answer = given r.leaves; depth = r.depth }
+read_answer (Err r) = record { answer = refused r; depth = 0 }
+
 -- THE CALL read, of the file b to the buffer o: the answer r with the depth beside it, and the buffer o' afterwards
-abbrev pub ReadOf : List ℕ → List ℕ → Reading → List ℕ → Type 0
+abbrev pub ReadOf : List ℕ → List ℕ → ReadAnswer → List ℕ → Type 0
 ReadOf b o r o' =
     Decided (unread o) (Unsound b ∷ Faulty (depth_of b) (codes b) 1 ∷ TooShort (length (codes b)) o ∷ [])
     (λ t. t ≡ (record { answer = given (length (codes b)); depth = depth_of b }, stands (codes b) o)) (r, o')

@@ -1,7 +1,10 @@
 -- INNER: for the contracts of private and inner functions. Definitions only.
-use Rattle.std.specs.Prelude.{◌≡◌, ℕ, ◌+◌, ◌/◌, ◌%◌, ◌^◌, ◌<◌, true, List, [], ◌∷◌, length, slice_set}
+use Rattle.std.specs.Prelude.{◌≡◌, ℕ, ◌+◌, ◌/◌, ◌%◌, ◌^◌, ◌<◌, true, false, List, [], ◌∷◌, length, Option, None, Some, Result, Ok, Err, slice_set}
 use Rattle.std.proofs.lemmas.List.Edits.{sets}
-use Rattle.cells.specs.Answer.{given, Decided, alone}
+use Rattle.cells.specs.Answer.{Decided, First}
+use Rattle.cells.specs.Refusals.{refused}
+use Rattle.cells.specs.declared.Answer.{Answer}
+use Rattle.cells.specs.declared.refusals.Refusal.{Refusal}
 use Rattle.records.specs.Fault.{Faulty}
 use Rattle.records.specs.Inner.{volume}
 use Rattle.blocks.specs.Block.{block_bytes, blocks, whole, sound_at, depth_of, tabulated, codes}
@@ -13,6 +16,11 @@ use Rattle.blocks.specs.declared.inner.held.Holding.{Holding}
 pub record Sound (b : List ℕ) : Type 0 where
   pub is_whole : whole b ≡ true
   pub each : (i : ℕ) → i < blocks b → sound_at b i ≡ true
+
+-- the first block of the file b that is not sound
+abbrev pub FirstUnsound : List ℕ → Option ℕ → Type 0
+FirstUnsound b (Some i) = First (blocks b) (λ j. sound_at b j ≡ false) i
+FirstUnsound b None = (i : ℕ) → i < blocks b → sound_at b i ≡ true
 
 -- the bytes b with the four of the word x from place p on
 abbrev pub stored : List ℕ → ℕ → ℕ → List ℕ
@@ -31,8 +39,15 @@ pub record Placed (l : List ℕ) (n i : ℕ) : Type 0 where
   pub few : n < 2 ^ 32
   pub inside : i < n
 
+-- what the file b holds
+abbrev pub held : List ℕ → Holding
+held b = record { leaves = length (codes b); depth = depth_of b; voxels = volume (depth_of b) (codes b) }
+
+-- a refusal as its answer
+abbrev pub answered : Result Holding Refusal → Result Holding Answer
+answered (Ok h) = Ok h
+answered (Err r) = Err (refused r)
+
 -- what is told of the file b and the list that it holds
-pub record HoldingOf (b : List ℕ) (r : Holding) : Type 0 where
-  pub tells : Decided alone (Unsound b ∷ Faulty (depth_of b) (codes b) 1 ∷ []) (λ a. a ≡ given (length (codes b))) r.answer
-  pub is_depth : r.answer.number ≡ 0 → r.depth ≡ depth_of b
-  pub is_voxels : r.answer.number ≡ 0 → r.voxels ≡ volume (depth_of b) (codes b)
+abbrev pub HoldingOf : List ℕ → Result Holding Answer → Type 0
+HoldingOf b = Decided Err (Unsound b ∷ Faulty (depth_of b) (codes b) 1 ∷ []) (λ r. r ≡ Ok (held b))

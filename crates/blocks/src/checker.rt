@@ -1,25 +1,24 @@
 // The block check: whether the blocks of a stored file are sound.
+ghost use Rattle.cells.specs.Refusals.{answer_of};
 ghost use Rattle.blocks.specs.Calls.{BlockCheckOf};
 
 use crate::BLOCK_BYTES;
 use crate::inner::soundness::{first_unsound, leaves_of};
-use cells::Answer;
-use cells::inner::{refusal, success};
+use cells::Refusal;
 
-// How many leaves the blocks of a file hold, or 9. The leaves themselves are not judged.
-pub fn check_blocks(bytes: &[u8]) -> Answer
-    ensures { BlockCheckOf bytes.now result }
+// How many leaves the blocks of a file hold, where they are sound. The leaves themselves are not judged.
+pub fn check_blocks(bytes: &[u8]) -> Result<usize, Refusal>
+    ensures { BlockCheckOf bytes.now (answer_of result) }
 {
     let n = bytes.len() / BLOCK_BYTES;
     if n == 0 {
-        return refusal(9, 0, 0);
+        return Err(Refusal::BadBlock(0));
     }
     if bytes.len() % BLOCK_BYTES != 0 {
-        return refusal(9, n as u64, 0);
+        return Err(Refusal::BadBlock(n));
     }
-    let i = first_unsound(bytes, n);
-    if i != n {
-        return refusal(9, i as u64, 0);
+    match first_unsound(bytes, n) {
+        Some(i) => Err(Refusal::BadBlock(i)),
+        None => Ok(leaves_of(bytes, n)),
     }
-    success(leaves_of(bytes, n) as u64)
 }

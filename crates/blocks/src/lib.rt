@@ -4,12 +4,11 @@
 #![tactic(auto)]
 
 mod checker;
-mod inner;
+pub mod inner;
 mod measurer;
 mod reader;
 mod writer;
 
-use cells::Answer;
 pub use checker::check_blocks;
 pub use measurer::stored_volume;
 pub use reader::read;
@@ -33,9 +32,9 @@ pub struct Sums {
     pub b: u32,
 }
 
-// What the reader tells: its answer, and the depth read, 0 where it is refused.
-#[derive(Clone, Copy)]
+// What was read: how many leaves, and the depth.
+#[derive(Clone, Copy, PartialEq, Eq, Debug)]
 pub struct Reading {
-    pub answer: Answer,
+    pub leaves: usize,
     pub depth: u32,
 }

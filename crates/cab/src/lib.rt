@@ -9,7 +9,7 @@ ghost use Rattle.cells.specs.Place.{axes};
 ghost use Rattle.cab.specs.Packed.{packed, Packed};
 
 use blocks::{check_blocks, stored_volume};
-use cells::neighbour;
+use cells::{Answer, neighbour};
 
 // 2^32, by which the number stands before the place, and the greatest place that fits behind it.
 const PLACES: u64 = 4294967296;
@@ -31,7 +31,7 @@ fn pack(number: u32, place: u64) -> u64
 pub fn cab_neighbour(depth: u32, code: u32, dx: i32, dy: i32, dz: i32) -> u64
     ensures { Packed (NeighbourOf depth code (axes dx dy dz)) result }
 {
-    let next = neighbour(depth, code, dx, dy, dz);
+    let next = Answer::from(neighbour(depth, code, dx, dy, dz));
     pack(next.number, next.place)
 }
 
@@ -39,7 +39,7 @@ pub fn cab_neighbour(depth: u32, code: u32, dx: i32, dy: i32, dz: i32) -> u64
 pub fn cab_check_blocks(bytes: &[u8]) -> u64
     ensures { Packed (BlockCheckOf bytes.now) result }
 {
-    let checked = check_blocks(bytes);
+    let checked = Answer::from(check_blocks(bytes));
     pack(checked.number, checked.place)
 }
 
@@ -47,6 +47,6 @@ pub fn cab_check_blocks(bytes: &[u8]) -> u64
 pub fn cab_stored_volume(bytes: &[u8]) -> u64
     ensures { Packed (StoredVolumeOf bytes.now) result }
 {
-    let measured = stored_volume(bytes);
+    let measured = Answer::from(stored_volume(bytes));
     pack(measured.number, measured.place)
 }

@@ -1,5 +1,5 @@
 -- A step along one axis on the bits of that axis: what is added to them and where the root ends; and three such steps. Assumes nothing.
-use Rattle.std.proofs.Common.{◌≡◌, ℕ, ◌+◌, ◌-◌, ◌*◌, ◌%◌, ◌^◌, ◌<◌, ◌≤◌, Bool, true, false, eqb, ℤ, pos, negsuc, sym, refl, ap, ◌∙◌, subst, ⊎_elim, arith}
+use Rattle.std.proofs.Common.{◌≡◌, ℕ, ◌+◌, ◌-◌, ◌*◌, ◌%◌, ◌^◌, ◌<◌, ◌≤◌, None, Some, ℤ, pos, negsuc, sym, ap, ◌∙◌, subst, ⊎_elim, arith}
 use native.Mathlib.Nat.{pow-le-pow_right}
 use lib.Bits.{bit_and, bit_or}
 use Rattle.cells.specs.AhujaNash.{added}
@@ -10,7 +10,7 @@ use Rattle.cells.proofs.Dilated.{spread, spread_none, spread_all, along_spread, 
 use Rattle.cells.proofs.Displacements.{displaced_parts}
 use Rattle.cells.proofs.Integers.{above, below}
 use Rattle.cells.proofs.Places.{along_lt}
-use Rattle.cells.proofs.Power.{le_or_lt, pow2_pos, pow8_pos, pow8_bits}
+use Rattle.cells.proofs.Power.{le_or_lt, pow2_pos, pow8_bits}
 use Rattle.cells.proofs.Sums.{added_came}
 
 -- ---- the step d on the bits of axis a of k labels
@@ -83,24 +83,13 @@ module _ (w a k i code mask : ℕ) (fits : code < 2 ^ w) (on : OnAxis a k i code
   not_last : (bit_and code mask ≡ border → ⊥) → along (2 ^ a) k i ≡ adds.last → ⊥
   not_last n e = n (here ∙ ap (spread a k) e ∙ sym adds.is_border)
 
-  pub step_leaves : bit_and code mask ≡ border → OneStep a k i d 0
-  step_leaves e = record { leaves = λ _ x h to. adds.ends x h (subst (λ (y : ℕ). Displaced d y x) (at_last e) to); stays = λ n. absurd (n refl) }
+  pub step_leaves : bit_and code mask ≡ border → OneStep a k i d None
+  step_leaves e = record { leaves = λ _ x h to. adds.ends x h (subst (λ (y : ℕ). Displaced d y x) (at_last e) to); stays = λ m is. absurd (cc) }
 
-  pub step_stays : (bit_and code mask ≡ border → ⊥) → OneStep a k i d (bit_or (bit_and ((bit_or code (2 ^ w - 1 - mask) + one) % 2 ^ w) mask) (bit_and code (2 ^ w - 1 - mask)))
+  pub step_stays : (bit_and code mask ≡ border → ⊥) → OneStep a k i d (Some (bit_or (bit_and ((bit_or code (2 ^ w - 1 - mask) + one) % 2 ^ w) mask) (bit_and code (2 ^ w - 1 - mask))))
   step_stays n =
       let J : ℕ = added a k i adds.t adds.c in
       let is : bit_or (bit_and ((bit_or code (2 ^ w - 1 - mask) + one) % 2 ^ w) mask) (bit_and code (2 ^ w - 1 - mask)) ≡ 8 ^ k + J =
       rw (on.is_code, on.is_mask, adds.is_one) (dilated k i a on.labels on.axis w room.0 room.1 room.2 adds.t adds.c adds.carry) in
       let (y, low, to) = adds.goes (along (2 ^ a) k i) (along_lt (2 ^ a) k i) (not_last n) in
-      record { leaves = λ z. absurd (omega (arith, pow8_pos k)); stays = λ _. (J, is, added_came a k i on.axis d adds.t adds.c adds.carry adds.complement y low to) }
-
--- no step at all
-pub step_none : (a k i code mask : ℕ) → OnAxis a k i code mask → OneStep a k i (pos 0) code
-step_none a k i code mask on = record {
-  leaves = λ z. absurd (omega (arith, on.is_code, pow8_pos k));
-  stays = λ _. (i, on.is_code, record { root = on.labels; each = λ b h. go (eqb a b) (along (2 ^ b) k i) });
-}
-  where
-    go : (s : Bool) (x : ℕ) → Displaced (elim s [ true ↦ pos 0 | false ↦ pos 0 ]) x x
-    go true x = (displaced_parts (pos 0) x x).1 refl
-    go false x = (displaced_parts (pos 0) x x).1 refl
+      record { leaves = λ none. absurd (cc); stays = λ m of. (J, (cc) ∙ is, added_came a k i on.axis d adds.t adds.c adds.carry adds.complement y low to) }

@@ -1,7 +1,6 @@
 -- The first number below n that has P: there is one at most, and one or none where P is decided. Assumes nothing.
 use Rattle.std.proofs.Common.{◌≡◌, ℕ, zero, suc, ◌<◌, ◌≤◌, Bool, true, false, ◌⊎◌, refl, inl, inr, ⊎_elim, le_refl, le_of_suc-le-suc, eq-or-lt_of_le, arith}
 use Rattle.cells.specs.Answer.{First}
-use Rattle.cells.specs.Inner.{Stops}
 use Rattle.cells.proofs.Bools.{clash}
 use Rattle.cells.proofs.Power.{le_or_lt}
 
@@ -37,11 +36,3 @@ first_false P n = ⊎_elim (λ f. inl f) (λ none. inr (λ i h. holds (P i) (non
     holds : (t : Bool) → (t ≡ false → ⊥) → t ≡ true
     holds true h = refl
     holds false h = absurd (h refl)
-
--- ---- a search that stops where a test fails
-
-pub stops_first : {n : ℕ} {P : ℕ → Bool} {r : ℕ} → Stops n P r → r < n → First n (λ i. P i ≡ false) r
-stops_first s h = record { below = h; here = s.here h; before = λ i l e. clash (s.before i l) e }
-
-pub stops_never : {n : ℕ} {P : ℕ → Bool} {r : ℕ} → Stops n P r → n ≤ r → (i : ℕ) → i < n → P i ≡ true
-stops_never s h i l = s.before i (omega arith)

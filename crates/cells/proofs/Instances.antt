@@ -4,11 +4,10 @@ use Rattle.std.proofs.Common.{◌≡◌, ℕ, ℤ, pos, negsuc, refl, ap, inr, a
 use Rattle.cells.specs.Cell.{level, proper, index, side}
 use Rattle.cells.specs.Place.{axes, along, corner}
 use Rattle.cells.specs.Answer.{answer, given}
-use Rattle.cells.specs.Corners.{is_corner, PlaceOf, CodeOf}
+use Rattle.cells.specs.Corners.{PlaceAnswer, is_corner, PlaceOf, CodeOf}
 use Rattle.cells.specs.Neighbour.{IsDirection, Neighbour, NeighbourOf}
 use Rattle.cells.specs.Payeur.{digit_of, under, rule, carried}
 use Rattle.cells.specs.declared.Answer.{Answer}
-use Rattle.cells.specs.declared.corners.Corner.{Corner}
 use Rattle.cells.proofs.Bools.{clash}
 use Rattle.cells.proofs.Decisions.{passes}
 use Rattle.cells.proofs.CornerLaws.{one_place, one_code}
@@ -23,7 +22,7 @@ unfolding level proper along index side corner
 place_holds = inr (passes (λ h. omega arith), inr (passes (clash refl), refl))
 
 pub place_fails : PlaceOf 3 559 (record { answer = given 0; x = 1; y = 3; z = 3; level = 3 }) → ⊥
-place_fails h = let e : ◌≡◌ {A = ℕ} 1 3 = ap (λ (r : Corner). r.x) (one_place 3 559 _ _ h place_holds) in omega arith
+place_fails h = let e : ◌≡◌ {A = ℕ} 1 3 = ap (λ (r : PlaceAnswer). r.x) (one_place 3 559 _ _ h place_holds) in omega arith
 
 pub code_holds : CodeOf 3 (axes 3 1 3) 3 (given 559)
 unfolding level proper along index side corner is_corner

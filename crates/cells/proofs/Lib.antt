@@ -4,9 +4,10 @@ pub mod Bools
 pub mod Power
 pub mod Table
 pub mod Integers
--- first numbers; what a table of refusals decides
+-- first numbers; what a table of refusals decides, and that a refusal has a number
 pub mod Firsts
 pub mod Decisions
+pub mod Refused
 -- a proper code as level, index and levels below: the one view of a cell; the other views from it
 pub mod Cells
 pub mod Levels

@@ -3,10 +3,10 @@ use Rattle.std.proofs.Common.{◌≡◌, ℕ, ◌*◌, ◌%◌, ◌^◌, ◌<◌
 use native.Mathlib.Nat.{pow-le-pow_right}
 use mir.ValLaws.{to_z-of_z}
 use Rattle.cells.specs.Answer.{deepest}
-use Rattle.cells.specs.Cell.{level, proper, end}
+use Rattle.cells.specs.Cell.{proper, end}
 use Rattle.cells.specs.Place.{axes}
 use Rattle.cells.proofs.Power.{pow8_bits}
-use Rattle.cells.proofs.Cells.{level_le, proper_bounds, within}
+use Rattle.cells.proofs.Cells.{within}
 
 -- ---- at most the greatest depth
 
@@ -26,9 +26,6 @@ pub codes_fit : (D : ℕ) → D ≤ deepest → 2 * 8 ^ D < 2 ^ word_bits
 codes_fit D h = omega (arith, pow8_small D h)
 
 module _ (D c : ℕ) (h : D ≤ deepest) (p : proper D c ≡ true) where
-  pub code_fits : c < 2 ^ word_bits
-  code_fits = omega (arith, proper_bounds D c p, codes_fit (level D c) (omega (arith, level_le D c)))
-
   pub end_fits : end D c < 2 ^ word_bits
   end_fits = omega (arith, within D c p, codes_fit D h)
 

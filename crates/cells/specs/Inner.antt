@@ -1,7 +1,7 @@
 -- INNER: for the contracts of private and inner functions: a coordinate on the grid of a level, a step along one axis, where a search stops, and where two
 -- numbers part.
 -- Definitions only.
-use Rattle.std.specs.Prelude.{◌≡◌, ℕ, zero, suc, ◌+◌, ◌*◌, ◌/◌, ◌%◌, ◌^◌, ◌<◌, ◌≤◌, Bool, true, false, ◌&&◌, ◌⊎◌, ℤ, pos, negsuc, ◌==◌, ◌≢◌, nat_lt}
+use Rattle.std.specs.Prelude.{◌≡◌, ℕ, zero, suc, ◌+◌, ◌*◌, ◌/◌, ◌%◌, ◌^◌, ◌<◌, Bool, true, false, ◌&&◌, ◌⊎◌, ℤ, pos, negsuc, ◌==◌, Option, None, Some, nat_lt}
 use Rattle.cells.specs.Place.{along, Displaced, Came}
 
 -- whether a coordinate lies in a root of side w and is a multiple of s
@@ -28,16 +28,10 @@ pub record OnAxis (a k i code mask : ℕ) : Type 0 where
 abbrev pub only : ℕ → ℤ → ℕ → ℤ
 only a d b = elim (a == b) [ true ↦ d | false ↦ pos 0 ]
 
--- A step d along axis a, from the cell with the k labels i: r is the code of the cell to which it leads; 0, which is no code, where it leaves the root.
-pub record OneStep (a k i : ℕ) (d : ℤ) (r : ℕ) : Type 0 where
-  pub leaves : r ≡ 0 → (x : ℕ) → x < 2 ^ k → Displaced d (along (2 ^ a) k i) x → ⊥
-  pub stays : (r ≢ 0) → (j : ℕ) × (r ≡ 8 ^ k + j) × Came k (only a d) i j
-
--- r is the first number below n that fails the test P, n where none does
-pub record Stops (n : ℕ) (P : ℕ → Bool) (r : ℕ) : Type 0 where
-  pub within : r ≤ n
-  pub before : (i : ℕ) → i < r → P i ≡ true
-  pub here : r < n → P r ≡ false
+-- A step d along axis a, from the cell with the k labels i: r is the code of the cell to which it leads; None where it leaves the root.
+pub record OneStep (a k i : ℕ) (d : ℤ) (r : Option ℕ) : Type 0 where
+  pub leaves : r ≡ None → (x : ℕ) → x < 2 ^ k → Displaced d (along (2 ^ a) k i) x → ⊥
+  pub stays : (m : ℕ) → r ≡ Some m → (j : ℕ) × (m ≡ 8 ^ k + j) × Came k (only a d) i j
 
 -- n is the place of the first label in which the numbers a and b differ, the last label's being 0: they have all labels before it in common
 pub record PartAt (a b n : ℕ) : Type 0 where

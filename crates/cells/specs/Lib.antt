@@ -1,5 +1,6 @@
 -- What a reader of the public contracts reads, in this order.
 pub mod Answer
+pub mod Refusals
 pub mod Cell
 pub mod Place
 pub mod Corners

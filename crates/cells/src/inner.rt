@@ -1,36 +1,12 @@
-// INNER: answers and the numbers of a cell, for the crates above. A host must not call these.
+// INNER: the numbers of a cell, for the crates above. A host must not call these.
 ghost use Rattle.std.specs.Prelude.{◌≡◌, ◌+◌, ◌^◌, ◌<◌, ◌≤◌, true, ◌≢◌};
-ghost use Rattle.cells.specs.Answer.{answer, given, deepest};
+ghost use Rattle.cells.specs.Answer.{deepest};
 ghost use Rattle.cells.specs.Cell.{level, proper, span, start};
 ghost use Rattle.cells.specs.Place.{along, number, corner};
 ghost use Rattle.cells.specs.Inner.{PartAt};
 
-use crate::Answer;
-
 // The place of a word's highest bit.
 const TOP_BIT: u32 = 31;
-
-// Number, place and list of a refusal.
-pub fn refusal(number: u32, place: u64, list: u32) -> Answer
-    ensures { result ≡ answer number place list }
-{
-    Answer {
-        number,
-        place,
-        list,
-    }
-}
-
-// Success with its place.
-pub fn success(place: u64) -> Answer
-    ensures { result ≡ given place }
-{
-    Answer {
-        number: 0,
-        place,
-        list: 0,
-    }
-}
 
 // The side of a cube of depth n.
 pub fn pow2(n: u32) -> u32
@@ -58,10 +34,7 @@ pub fn is_proper(depth: u32, code: u32) -> bool
         return false;
     }
     let top = TOP_BIT - zeros;
-    if top % 3 != 0 {
-        return false;
-    }
-    top / 3 <= depth
+    top % 3 == 0 && top / 3 <= depth
 }
 
 // The level of a proper code, read off the count of leading zeros.

@@ -9,8 +9,7 @@ use lib.IntN.{pos}
 use Rattle.cells.specs.Answer.{answer, given}
 use Rattle.cells.specs.declared.Answer.{Answer}
 use Rattle.cells.proofs.Decisions.{passes, deep_enough}
-use Rattle.records.specs.Lookups.{unseen, LookupOf}
-use Rattle.records.specs.declared.lookups.Finding.{Finding}
+use Rattle.records.specs.Lookups.{LookupAnswer, unseen, LookupOf}
 use Rattle.sets.specs.declared.Op.{Op}
 use Rattle.sets.specs.declared.Op.TheVariants.{Join, Intersect, Subtract}
 use Rattle.metres.specs.declared.Move.{Move}
@@ -66,8 +65,8 @@ rejects_set_bits op r o refused h = refused (ap number_of (set_left op r o h))
 pub rejects_move_bits : (r : Answer) (o : List ℕ) → (Succeeds r → ⊥) → MoveBitsOf 1 (1 ∷ []) along_x_lem two_bytes r o → ⊥
 rejects_move_bits r o refused h = refused (ap number_of (one_move_bits 1 (1 ∷ []) along_x_lem two_bytes (r, o) _ h move_bits_holds))
 
-pub rejects_lookup_bits : (r : Finding) → (Succeeds r.answer → ⊥) → LookupBitsOf 1 (9 ∷ []) 1 1 0 r → ⊥
-rejects_lookup_bits r refused h = refused (ap (λ (f : Finding). f.answer.number) (one_lookup_bits 1 (9 ∷ []) 1 1 0 r _ h lookup_bits_holds))
+pub rejects_lookup_bits : (r : LookupAnswer) → (Succeeds r.answer → ⊥) → LookupBitsOf 1 (9 ∷ []) 1 1 0 r → ⊥
+rejects_lookup_bits r refused h = refused (ap (λ (f : LookupAnswer). f.answer.number) (one_lookup_bits 1 (9 ∷ []) 1 1 0 r _ h lookup_bits_holds))
 
 -- ---- one that hands out fixed bits, whatever the operation or what is moved
 
@@ -143,9 +142,9 @@ spare_bits_read o h = let e : ◌≡◌ {A = ℕ} 1 0 = ap place_of (one_to_list
 
 -- ---- one that tests the bits before the voxel: it tells the same of each voxel as the lists' lookup does, and what it answers does not fit
 
-reordered : (D : ℕ) (b : List ℕ) (x y z : ℕ) (r : Finding) → Roomy r.answer → short_first D b x y z r → LookupBitsOf D b x y z r
+reordered : (D : ℕ) (b : List ℕ) (x y z : ℕ) (r : LookupAnswer) → Roomy r.answer → short_first D b x y z r → LookupBitsOf D b x y z r
 reordered D b x y z r room (inl t) = inl t
-reordered D b x y z r room (inr (_, inl (a, (_, e), f))) = absurd (room (ap (λ (q : Finding). q.answer.number) (f ∙ ap unseen e)))
+reordered D b x y z r room (inr (_, inl (a, (_, e), f))) = absurd (room (ap (λ (q : LookupAnswer). q.answer.number) (f ∙ ap unseen e)))
 reordered D b x y z r room (inr (deep, inr (_, inl t))) = inr (deep, inl t)
 reordered D b x y z r room (inr (deep, inr (long, inr (inside, e)))) = inr (deep, inr (inside, inr (long, e)))
 
@@ -155,6 +154,6 @@ short_first_lem = (
   λ D l b h x i j k r s t t' room. looks_alike D l b h x i j k r s t (reordered D b i j k s room t') room,
   (
     inr (passes (deep_enough (omega arith)), inl (answer 8 1 0, (omega arith, refl), refl)),
-    λ h. let e : ◌≡◌ {A = ℕ} 8 6 = ap (λ (q : Finding). q.answer.number) (one_lookup_bits 1 [] 2 0 0 (unseen (answer 8 1 0)) _ h (lookup_bits_refuses [])) in omega arith,
+    λ h. let e : ◌≡◌ {A = ℕ} 8 6 = ap (λ (q : LookupAnswer). q.answer.number) (one_lookup_bits 1 [] 2 0 0 (unseen (answer 8 1 0)) _ h (lookup_bits_refuses [])) in omega arith,
   ),
 )

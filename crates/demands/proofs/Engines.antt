@@ -20,8 +20,7 @@ use Rattle.cells.proofs.Places.{number_lt}
 use Rattle.cells.proofs.Power.{le_or_lt}
 use Rattle.records.specs.Record.{black, Good, ListOf}
 use Rattle.records.specs.Carried.{FromBlack, Strays}
-use Rattle.records.specs.Lookups.{NoVoxel, unseen, seen, SeenIn, LookupOf}
-use Rattle.records.specs.declared.lookups.Finding.{Finding}
+use Rattle.records.specs.Lookups.{LookupAnswer, NoVoxel, unseen, seen, SeenIn, LookupOf}
 use Rattle.records.specs.Fault.{Faulty}
 use Rattle.records.proofs.Fault.{member_at, index_of, in_order}
 use Rattle.records.proofs.First.{good_passes, not_faulty, faulty_numbered}
@@ -284,14 +283,14 @@ looks_alike D l b h x i j k r s t t' room =
     (decided_past unseen (TooDeep deepest_plain D) (NoVoxel D (axes i j k) ∷ BitsShort D b ∷ []) Read s (passes (deep_enough h)) t')
   where
     -- what each tells of a voxel in the root
-    Listed : Finding → Type 0
+    Listed : LookupAnswer → Type 0
     Listed = SeenIn D (black D l) (number D i j k)
 
-    Read : Finding → Type 0
+    Read : LookupAnswer → Type 0
     Read = SeenIn D (black_in D b) (number D i j k)
 
     roomy : Decided unseen (BitsShort D b ∷ []) Read s → Read s
-    roomy (inl (a, (_, e), f)) = absurd (room (ap (λ (q : Finding). q.answer.number) f ∙ told e))
+    roomy (inl (a, (_, e), f)) = absurd (room (ap (λ (q : LookupAnswer). q.answer.number) f ∙ told e))
     roomy (inr (_, e)) = e
 
     -- the colours are the same, so the cell is

@@ -7,17 +7,15 @@ use native.Mathlib.Omega.{arith}
 use lib.IntN.{pos, negsuc}
 use lib.ListN.{length, get_or}
 use Rattle.cells.specs.Answer.{answer, given}
-use Rattle.cells.specs.Corners.{PlaceOf, CodeOf}
+use Rattle.cells.specs.Corners.{PlaceAnswer, PlaceOf, CodeOf}
 use Rattle.cells.specs.Neighbour.{NeighbourOf}
 use Rattle.cells.specs.Place.{axes}
 use Rattle.cells.specs.declared.Answer.{Answer}
-use Rattle.cells.specs.declared.corners.Corner.{Corner}
 use Rattle.cells.proofs.CornerLaws.{one_place, one_code}
 use Rattle.cells.proofs.NeighbourLaws.{one_neighbour_of}
 use Rattle.cells.proofs.Instances.{place_holds, code_holds, neighbour_holds}
 use Rattle.records.specs.Calls.{CheckOf, VolumeOf}
-use Rattle.records.specs.Lookups.{LookupOf}
-use Rattle.records.specs.declared.lookups.Finding.{Finding}
+use Rattle.records.specs.Lookups.{LookupAnswer, LookupOf}
 use Rattle.records.specs.Writing.{stands}
 use Rattle.records.specs.Met.{MetOf, MetAtOf}
 use Rattle.records.proofs.CallLaws.{one_check, one_lookup, one_volume}
@@ -60,8 +58,8 @@ rejects_volume r refused h = refused (ap (λ (s : Answer). s.number) (one_volume
 pub rejects_check : (r : Answer) → (Succeeds r → ⊥) → CheckOf 3 r057 r → ⊥
 rejects_check r refused h = refused (ap (λ (s : Answer). s.number) (one_check 3 r057 r _ h right_check_lem))
 
-pub rejects_place : (r : Corner) → (Succeeds r.answer → ⊥) → PlaceOf 3 559 r → ⊥
-rejects_place r refused h = refused (ap (λ (s : Corner). s.answer.number) (one_place 3 559 r _ h place_holds))
+pub rejects_place : (r : PlaceAnswer) → (Succeeds r.answer → ⊥) → PlaceOf 3 559 r → ⊥
+rejects_place r refused h = refused (ap (λ (s : PlaceAnswer). s.answer.number) (one_place 3 559 r _ h place_holds))
 
 pub rejects_code : (r : Answer) → (Succeeds r → ⊥) → CodeOf 3 (axes 3 1 3) 3 r → ⊥
 rejects_code r refused h = refused (ap (λ (s : Answer). s.number) (one_code 3 (axes 3 1 3) 3 r _ h code_holds))
@@ -73,8 +71,8 @@ rejects_neighbour r refused h = refused (ap (λ (s : Answer). s.number) (one_nei
 pub rejects_cab_neighbour : (w : ℕ) → 2 ^ 32 ≤ w → Packed (NeighbourOf 3 994 (axes (negsuc 0) (pos 1) (pos 1))) w → ⊥
 rejects_cab_neighbour w refused h = let e : w ≡ 957 = one_cab_neighbour 3 994 (axes (negsuc 0) (pos 1) (pos 1)) w 957 h cab_neighbour_holds in omega arith
 
-pub rejects_lookup : (r : Finding) → (Succeeds r.answer → ⊥) → LookupOf 3 r057 3 1 3 r → ⊥
-rejects_lookup r refused h = refused (ap (λ (s : Finding). s.answer.number) (one_lookup 3 r057 3 1 3 r _ h lookup_holds))
+pub rejects_lookup : (r : LookupAnswer) → (Succeeds r.answer → ⊥) → LookupOf 3 r057 3 1 3 r → ⊥
+rejects_lookup r refused h = refused (ap (λ (s : LookupAnswer). s.answer.number) (one_lookup 3 r057 3 1 3 r _ h lookup_holds))
 
 pub rejects_met_at : (r : Answer) → (Succeeds r → ⊥) → MetAtOf 2 r0_r2 67 (axes (pos 0) (pos 1) (pos 0)) r → ⊥
 rejects_met_at r refused h = refused (ap (λ (s : Answer). s.number) (one_met_at 2 r0_r2 67 (axes (pos 0) (pos 1) (pos 0)) r _ h met_at_holds))

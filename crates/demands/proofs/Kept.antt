@@ -22,8 +22,7 @@ use Rattle.metres.specs.declared.Move.{Move}
 use Rattle.moves.specs.Moves.{ShiftOf, MoveOf}
 use Rattle.blocks.specs.Block.{depth_of, codes}
 use Rattle.blocks.specs.File.{file_of}
-use Rattle.blocks.specs.Calls.{Unsound, unread, ReadOf, WriteOf}
-use Rattle.blocks.specs.declared.Reading.{Reading}
+use Rattle.blocks.specs.Calls.{ReadAnswer, Unsound, unread, ReadOf, WriteOf}
 use Rattle.text.specs.Text.{text_of, TextOf, refused_text, RefusedOf}
 use Rattle.arrivals.specs.Arrivals.{Step, leaving, OtherDepth, ArriveOf, MergeOf}
 use Rattle.arrivals.proofs.Steps.{of_read, MovedFrom, Arrived, of_join, StoredAs, JoinedTo}
@@ -90,10 +89,10 @@ read_keeps b D o o' r d =
     decided_all (unread o) (Unsound b ∷ Faulty (depth_of b) (codes b) 1 ∷ TooShort (length (codes b)) o ∷ []) (λ t. t ≡ success) OfReading _ (kept_refused o)
     (λ e. subst⁻¹ OfReading {y = success} e (kept_stands (codes b) o)) d
   where
-    OfReading : Reading × List ℕ → Type 0
+    OfReading : ReadAnswer × List ℕ → Type 0
     OfReading t = Kept o t.0.answer t.1
 
-    success : Reading × List ℕ
+    success : ReadAnswer × List ℕ
     success = (record { answer = given (length (codes b)); depth = depth_of b }, stands (codes b) o)
 
 pub text_keeps : (D : ℕ) (l : List ℕ) → Keeps (TextOf D l)

@@ -22,8 +22,7 @@ use Rattle.cells.proofs.Views.{cube, from_cube}
 use Rattle.records.specs.Record.{black}
 use Rattle.records.specs.Count.{bit}
 use Rattle.records.specs.Fault.{Faulty}
-use Rattle.records.specs.Lookups.{NoVoxel, Largest, unseen, seen, SeenIn, LookupOf}
-use Rattle.records.specs.declared.lookups.Finding.{Finding}
+use Rattle.records.specs.Lookups.{LookupAnswer, NoVoxel, Largest, unseen, seen, SeenIn, LookupOf}
 use Rattle.records.proofs.CallLaws.{one_lookup}
 use Rattle.records.proofs.First.{faulty_numbered, not_faulty}
 use Rattle.records.proofs.Leaves.{leaf_of}
@@ -65,13 +64,13 @@ module _ (D : ℕ) (P : ℕ → Bool) (x x' : ℕ → ℕ) (k : ℕ) (t : Larges
       rw (← t.is_level) at e ∙ cube D t.cell own.is_proper (2 ^ a) _ own.held)
 
   -- the same is told of them
-  pub other_seen : (r : Finding) → r ≡ seen (P (number D (x 0) (x 1) (x 2))) k → SeenIn D P (number D (x' 0) (x' 1) (x' 2)) r
+  pub other_seen : (r : LookupAnswer) → r ≡ seen (P (number D (x 0) (x 1) (x 2))) k → SeenIn D P (number D (x' 0) (x' 1) (x' 2)) r
   other_seen r is = (k, largest_with t _ other_held, is ∙ ap (λ (b : Bool). seen b k) (sym (colour_with t _ other_held)))
 
 -- ---- lists
 
 -- a lookup that succeeded has passed its tests
-module _ (D : ℕ) (l : List ℕ) (x y z : ℕ) (r : Finding) (told : LookupOf D l x y z r) (ok : Succeeds r.answer) where
+module _ (D : ℕ) (l : List ℕ) (x y z : ℕ) (r : LookupAnswer) (told : LookupOf D l x y z r) (ok : Succeeds r.answer) where
   abbrev v : ℕ
   v = number D x y z
 
@@ -81,10 +80,10 @@ module _ (D : ℕ) (l : List ℕ) (x y z : ℕ) (r : Finding) (told : LookupOf D
       (refuses_numbered (λ e. omega arith), (faulty_numbered D l 1, (refuses_numbered (λ e. omega arith), tt))) ok told
 
   level_told : (k : ℕ) → r ≡ seen (black D l v) k → r.level ≡ k
-  level_told k is = ap (λ (f : Finding). f.level) is
+  level_told k is = ap (λ (f : LookupAnswer). f.level) is
 
   colour_told : (k n : ℕ) → r ≡ seen (black D l v) k → r.answer ≡ given n → bit (black D l v) ≡ n
-  colour_told k n is given-n = ap (λ (f : Finding). f.answer.place) (sym is) ∙ ap (λ (a : Answer). a.place) given-n
+  colour_told k n is given-n = ap (λ (f : LookupAnswer). f.answer.place) (sym is) ∙ ap (λ (a : Answer). a.place) given-n
 
   leaf_told : r.answer ≡ given 1 → (c : ℕ) × Memᴰ c l × (holds D c v ≡ true) × (r.level ≡ level D c)
   leaf_told one =
@@ -121,6 +120,6 @@ pub tells_cell_bits : TellsCell LookupBitsOf
 tells_cell_bits D b x y z r told ok x' y' z' near s told' =
     let ((deep, (inside, (long, _))), (k, largest, is)) = decided_passed (λ f. f.answer.number) unseen (λ a. refl) (TooDeep deepest_plain D ∷ NoVoxel D (axes x y z) ∷ BitsShort D b ∷ []) (SeenIn D (black_in D b) (number D x y z)) r (refuses_numbered (λ e. omega arith), (refuses_numbered (λ e. omega arith), (refuses_numbered (λ e. omega arith), tt))) ok told in
     let root = root_each D (axes x y z) inside in
-    let near' : OneCell D k (axes x y z) (axes x' y' z') = rw (ap (λ (f : Finding). f.level) is) at near in
+    let near' : OneCell D k (axes x y z) (axes x' y' z') = rw (ap (λ (f : LookupAnswer). f.level) is) at near in
     one_lookup_bits D b x' y' z' s r told'
     (inr (deep, inr (root_passes D (axes x' y' z') (other_root D (black_in D b) (axes x y z) (axes x' y' z') k largest root near'), inr (long, other_seen D (black_in D b) (axes x y z) (axes x' y' z') k largest root near' r is))))

@@ -10,8 +10,7 @@ use Rattle.cells.specs.Answer.{answer, given}
 use Rattle.cells.specs.declared.Answer.{Answer}
 use Rattle.records.proofs.First.{good_passes}
 use Rattle.blocks.specs.File.{blocks_of, plain, words, byte_of, file_of}
-use Rattle.blocks.specs.Calls.{BlockCheckOf, StoredVolumeOf, ReadOf, WriteOf}
-use Rattle.blocks.specs.declared.Reading.{Reading}
+use Rattle.blocks.specs.Calls.{ReadAnswer, BlockCheckOf, StoredVolumeOf, ReadOf, WriteOf}
 use Rattle.blocks.proofs.Files.{file_length, file_byte_lem}
 use Rattle.blocks.proofs.Sound.{sound_passes}
 use Rattle.blocks.proofs.CallLaws.{one_check_blocks, one_stored_volume, one_read, one_write}
@@ -27,7 +26,7 @@ use Rattle.demands.proofs.Agreement.{list_crowded}
 
 -- what a reader leaves: its reading, and the buffer afterwards
 abbrev Read : Type 0
-Read = Reading × List ℕ
+Read = ReadAnswer × List ℕ
 
 abbrev two_places : List ℕ
 two_places = 7 ∷ 7 ∷ []
@@ -40,7 +39,7 @@ bytes = replicate 513 7
 pub rejects_write : (r : Answer) (o : List ℕ) → (Succeeds r → ⊥) → WriteOf 3 r057 bytes r o → ⊥
 rejects_write r o refused h = refused (ap number_of (one_write 3 r057 bytes (r, o) (given 512, file_of 3 r057 ++ (7 ∷ [])) h write_holds))
 
-pub rejects_read : (r : Reading) (o : List ℕ) → (Succeeds r.answer → ⊥) → ReadOf (file_of 3 r057) two_places r o → ⊥
+pub rejects_read : (r : ReadAnswer) (o : List ℕ) → (Succeeds r.answer → ⊥) → ReadOf (file_of 3 r057) two_places r o → ⊥
 rejects_read r o refused h = refused (ap (λ (t : Read). t.0.answer.number) (one_read (file_of 3 r057) two_places (r, o) _ h read_holds))
 
 pub rejects_block_check : (r : Answer) → (Succeeds r → ⊥) → BlockCheckOf (file_of 3 r057) r → ⊥
@@ -77,7 +76,7 @@ fixed_write r o h k =
     let q = ap (λ (t : Left). get_or t.1 12 0) (one_write 3 [] bytes (r, o) (given 512, file_of 3 [] ++ drop 512 bytes) k none) in
     omega (arith, p, q, one_counted (7 ∷ []), none_counted (drop 512 bytes))
 
-pub fixed_read : (r : Reading) (o : List ℕ) → ReadOf (file_of 3 r057) two_places r o → ReadOf (file_of 3 []) two_places r o → ⊥
+pub fixed_read : (r : ReadAnswer) (o : List ℕ) → ReadOf (file_of 3 r057) two_places r o → ReadOf (file_of 3 []) two_places r o → ⊥
 fixed_read r o h k =
     let p = ap (λ (t : Read). t.0.answer.place) (one_read (file_of 3 r057) two_places (r, o) _ h read_holds) in
     let q = ap (λ (t : Read). t.0.answer.place) (one_read (file_of 3 []) two_places (r, o) _ k (reads_file 3 [] two_places (omega arith) good_none (omega arith))) in
@@ -90,7 +89,7 @@ silent_write r h =
     let e : 7 ≡ get_or (file_of 3 r057 ++ (7 ∷ [])) 12 0 = ap (λ (t : Left). get_or t.1 12 0) (one_write 3 r057 bytes (r, bytes) (given 512, file_of 3 r057 ++ (7 ∷ [])) h write_holds) in
     omega (arith, one_counted (7 ∷ []))
 
-pub silent_read : (r : Reading) → ReadOf (file_of 3 r057) two_places r two_places → ⊥
+pub silent_read : (r : ReadAnswer) → ReadOf (file_of 3 r057) two_places r two_places → ⊥
 silent_read r h = let e : ◌≡◌ {A = ℕ} 7 559 = ap (λ (t : Read). get_or t.1 0 0) (one_read (file_of 3 r057) two_places (r, two_places) _ h read_holds) in omega arith
 
 -- ---- an invented volume, leaf count, byte count or needed room

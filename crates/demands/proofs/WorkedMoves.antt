@@ -1,11 +1,12 @@
 -- Moves worked out: a test that antt computes, and the law that what passes it fits the move call's definition. Assumes nothing.
-use mathlib.Core.Path.{◌≡◌, refl, sym, ap, subst, subst⁻¹}
+use mathlib.Core.Path.{◌≡◌, refl, ap, subst, subst⁻¹}
 use mathlib.Core.Logic.{◌⊎◌, inl, inr}
 use mathlib.Core.Bool.{Bool, true, false, not, ◌&&◌}
 use mathlib.Core.List.{List, []}
 use Prim.Native.Nat.{ℕ}
 use lib.Dec.{leb, ltb, eqb}
 use lib.IntN.{ℤ, pos, negsuc}
+use Rattle.std.specs.Prelude.{Result, Ok, Err}
 use lib.ListN.{length, get_or}
 use borrow.Author.Tests.{leb-true, leb-false, ltb-true, eqb-true, not-true}
 use Rattle.cells.specs.Answer.{answer, Decided, keeping}
@@ -13,20 +14,20 @@ use Rattle.cells.specs.Place.{axes}
 use Rattle.cells.specs.declared.Answer.{Answer}
 use Rattle.cells.proofs.Bools.{both_true, clash}
 use Rattle.cells.proofs.Decisions.{decided_all}
-use Rattle.cells.proofs.Places.{each_axis}
 use Rattle.records.specs.Record.{Good}
 use Rattle.records.specs.Writing.{stands}
 use Rattle.records.proofs.Fill.{good_list}
 use Rattle.metres.specs.Inner.{together}
 use Rattle.metres.specs.Metres.{finest, move_tests, Becomes}
-use Rattle.metres.specs.Taken.{TakenOf}
+use Rattle.metres.specs.Taken.{told, TakenOf}
 use Rattle.metres.specs.declared.Metres.{Metres}
 use Rattle.metres.specs.declared.Move.{Move}
 use Rattle.metres.specs.declared.Move.TheVariants as MoveV
-use Rattle.metres.specs.declared.inner.Taken.{Taken}
-use Rattle.metres.specs.declared.inner.Taken.TheVariants as TakenV
+use Rattle.metres.specs.declared.inner.Steps.{Steps}
+use Rattle.cells.specs.declared.refusals.NoWholeMove.{NoWholeMove}
+use Rattle.cells.specs.declared.refusals.NoWholeMove.TheVariants.{EdgeNumber}
 use Rattle.metres.proofs.Rounding.{rounded, rounded_exists}
-use Rattle.metres.proofs.TakenLaws.{together_taken, bad_decides, whole_decides}
+use Rattle.metres.proofs.TakenLaws.{together_taken, edge_taken, voxels_taken, bad_decides, whole_decides}
 use Rattle.shifts.specs.Shift.{shifted}
 use Rattle.moves.specs.Inner.{leaf_keeps, back}
 use Rattle.moves.specs.Moves.{ShiftOf, ByVoxels, MoveOf}
@@ -37,20 +38,21 @@ use Rattle.demands.proofs.Agreement.{agrees, agrees_is, leaving, good_at, good_a
 
 -- ---- the whole voxels that a move becomes
 
-abbrev pub edged : Bool → Metres → Taken
+abbrev pub edged : Bool → Metres → Result Steps NoWholeMove
 edged true d = together (rounded d.s d.x) (rounded d.s d.y) (rounded d.s d.z)
-edged false d = TakenV.Bad 3
+edged false d = Err EdgeNumber
 
-abbrev pub in_voxels : Move → Taken
-in_voxels (MoveV.Voxels i j k) = TakenV.Voxels i j k
+abbrev pub in_voxels : Move → Result Steps NoWholeMove
+in_voxels (MoveV.Voxels i j k) = Ok (record { x = i; y = j; z = k })
 in_voxels (MoveV.Metres d) = edged (leb d.s finest) d
 
-edged_is : (d : Metres) → TakenOf d (edged (leb d.s finest) d)
-edged_is d = go (leb d.s finest) refl
+taken : (m : Move) → TakenOf m (in_voxels m)
+taken (MoveV.Voxels i j k) = voxels_taken i j k
+taken (MoveV.Metres d) = go (leb d.s finest) refl
   where
-    go : (t : Bool) → leb d.s finest ≡ t → TakenOf d (edged t d)
+    go : (t : Bool) → leb d.s finest ≡ t → TakenOf (MoveV.Metres d) (edged t d)
     go true h = together_taken d (leb-true _ _ h) _ _ _ (rounded_exists d.s d.x) (rounded_exists d.s d.y) (rounded_exists d.s d.z)
-    go false h = inl (_, (leb-false _ _ h, refl), refl)
+    go false h = edge_taken d (leb-false _ _ h)
 
 -- ---- moves
 
@@ -73,29 +75,25 @@ module _ (D : ℕ) (l : List ℕ) (d : ℕ → ℤ) where
       let (u, b) = both_true (not keeps) (agrees (answer 7 r.place 1, []) r w) f' in
       subst (λ (t : Left). ShiftOf D l d o (leaving o t)) (agrees_is (answer 7 r.place 1, []) r w b) (strays_told D l d g.ordered o r.place (ltb-true _ _ a) q (not-true keeps u))
 
-abbrev pub moves_well : Taken → ℕ → List ℕ → ℕ → Answer → List ℕ → Bool
-moves_well (TakenV.Bad p) D l n r w = agrees (answer 5 p 0, []) r w
-moves_well (TakenV.Voxels i j k) D l n r w = shifts_well D l (axes i j k) (stay D l (axes i j k) (length l)) n r w
+abbrev pub moves_well : Result Steps NoWholeMove → ℕ → List ℕ → ℕ → Answer → List ℕ → Bool
+moves_well (Err e) D l n r w = agrees (told e, []) r w
+moves_well (Ok v) D l n r w = shifts_well D l (axes v.x v.y v.z) (stay D l (axes v.x v.y v.z) (length l)) n r w
 
 -- the tests of the move and then the shift
 abbrev Past : ℕ → List ℕ → Move → List ℕ → Left → Type 0
 Past D l m o = Decided (keeping o) (move_tests m) (ByVoxels m (λ d. ShiftOf D l d o))
 
-metres_fit : (D : ℕ) (l : List ℕ) (d : Metres) (o : List ℕ) (r : Answer) (w : List ℕ) → Good D l → (t : Taken) → TakenOf d t → moves_well t D l (length o) r w ≡ true
-    → Past D l (MoveV.Metres d) o (leaving o (r, w))
-metres_fit D l d o r w g (TakenV.Bad p) x e = subst (λ (t : Left). Past D l (MoveV.Metres d) o (leaving o t)) (agrees_is (answer 5 p 0, []) r w e) (bad_decides (keeping o) (ByVoxels (MoveV.Metres d) (λ x. ShiftOf D l x o)) d p x)
-metres_fit D l d o r w g (TakenV.Voxels i j k) x e =
-    whole_decides (keeping o) (ByVoxels (MoveV.Metres d) (λ x. ShiftOf D l x o)) d i j k (leaving o (r, w)) x (λ b. (i, j, k, b, shifts_fits D l (axes i j k) g o r w (stay D l (axes i j k) (length l)) refl e))
-
-past_fits : (D : ℕ) (l : List ℕ) (m : Move) (o : List ℕ) (r : Answer) (w : List ℕ) → Good D l → moves_well (in_voxels m) D l (length o) r w ≡ true → Past D l m o (leaving o (r, w))
-past_fits D l (MoveV.Voxels i j k) o r w g e = (i, j, k, each_axis _ refl refl refl, shifts_fits D l (axes i j k) g o r w (stay D l (axes i j k) (length l)) refl e)
-past_fits D l (MoveV.Metres d) o r w g e = metres_fit D l d o r w g (edged (leb d.s finest) d) (edged_is d) e
+past_fits : (D : ℕ) (l : List ℕ) (m : Move) (o : List ℕ) (r : Answer) (w : List ℕ) → Good D l → (t : Result Steps NoWholeMove) → TakenOf m t → moves_well t D l (length o) r w ≡ true → Past D l m o (leaving o (r, w))
+past_fits D l m o r w g (Err p) x e = subst (λ (t : Left). Past D l m o (leaving o t)) (agrees_is (told p, []) r w e) (bad_decides (keeping o) (ByVoxels m (λ x. ShiftOf D l x o)) m p x)
+past_fits D l m o r w g (Ok v) x e =
+    let d = axes v.x v.y v.z in
+    whole_decides (keeping o) (ByVoxels m (λ x. ShiftOf D l x o)) m v (leaving o (r, w)) x (λ b. (v.x, v.y, v.z, b, shifts_fits D l d g o r w (stay D l d (length l)) refl e))
 
 pub moves_fits : (D : ℕ) (l : List ℕ) (m : Move) (o : List ℕ) (r : Answer) (w : List ℕ) → (good_at D l && moves_well (in_voxels m) D l (length o) r w) ≡ true → MoveOf D l m o r (stands w o)
 moves_fits D l m o r w e =
     let (p, f) = both_true (good_at D l) (moves_well (in_voxels m) D l (length o) r w) e in
     let (h, g) = good_at_is D l p in
-    move_of D l m o r (stands w o) h g (past_fits D l m o r w g f)
+    move_of D l m o r (stands w o) h g (past_fits D l m o r w g (in_voxels m) (taken m) f)
 
 -- ---- the whole voxels of a move, as a test
 
@@ -111,28 +109,25 @@ whole_same (pos a) (negsuc b) e = absurd (clash e refl)
 whole_same (negsuc a) (pos b) e = absurd (clash e refl)
 whole_same (negsuc a) (negsuc b) e = ap negsuc (eqb-true a b e)
 
-abbrev pub is_taken : Taken → ℤ → ℤ → ℤ → Bool
-is_taken (TakenV.Bad p) i j k = false
-is_taken (TakenV.Voxels x y z) i j k = is_whole x i && (is_whole y j && is_whole z k)
+abbrev pub is_taken : Result Steps NoWholeMove → ℤ → ℤ → ℤ → Bool
+is_taken (Err e) i j k = false
+is_taken (Ok v) i j k = is_whole v.x i && (is_whole v.y j && is_whole v.z k)
 
--- what is not refused is what the metres become
-abbrev unrefused : Metres → Answer ⊎ (ℤ × ℤ × ℤ) → Type 0
-unrefused d (inl a) = Unit {0}
-unrefused d (inr v) = Becomes (MoveV.Metres d) (axes v.0 v.1 v.2)
+-- what is not refused is what the move becomes
+abbrev unrefused : Move → Answer ⊎ (ℤ × ℤ × ℤ) → Type 0
+unrefused m (inl a) = Unit {0}
+unrefused m (inr v) = Becomes m (axes v.0 v.1 v.2)
 
-taken_becomes : (d : Metres) (i j k : ℤ) → TakenOf d (TakenV.Voxels i j k) → Becomes (MoveV.Metres d) (axes i j k)
-taken_becomes d i j k x = decided_all inl (move_tests (MoveV.Metres d)) (λ r. (a : ℤ) × (b : ℤ) × (c : ℤ) × Becomes (MoveV.Metres d) (axes a b c) × (r ≡ inr (a, b, c))) (unrefused d) (inr (i, j, k)) (λ a. tt) (λ (a, b, c, h, e). subst⁻¹ (unrefused d) e h) x
+taken_becomes : (m : Move) (v : Steps) → TakenOf m (Ok v) → Becomes m (axes v.x v.y v.z)
+taken_becomes m v x =
+    decided_all inl (move_tests m) (λ r. (a : ℤ) × (b : ℤ) × (c : ℤ) × Becomes m (axes a b c) × (r ≡ inr (a, b, c))) (unrefused m) (inr (v.x, v.y, v.z)) (λ a. tt) (λ (a, b, c, h, e). subst⁻¹ (unrefused m) e h) x
 
-metres_become : (d : Metres) (i j k : ℤ) (t : Taken) → TakenOf d t → is_taken t i j k ≡ true → Becomes (MoveV.Metres d) (axes i j k)
-metres_become d i j k (TakenV.Bad p) x e = absurd (clash e refl)
-metres_become d i j k (TakenV.Voxels a b c) x e =
-    let (p, f) = both_true (is_whole a i) (is_whole b j && is_whole c k) e in
-    let (q, r) = both_true (is_whole b j) (is_whole c k) f in
-    rw (← whole_same a i p, ← whole_same b j q, ← whole_same c k r) (taken_becomes d a b c x)
+whole_becomes : (m : Move) (i j k : ℤ) (t : Result Steps NoWholeMove) → TakenOf m t → is_taken t i j k ≡ true → Becomes m (axes i j k)
+whole_becomes m i j k (Err p) x e = absurd (clash e refl)
+whole_becomes m i j k (Ok v) x e =
+    let (p, f) = both_true (is_whole v.x i) (is_whole v.y j && is_whole v.z k) e in
+    let (q, r) = both_true (is_whole v.y j) (is_whole v.z k) f in
+    rw (← whole_same v.x i p, ← whole_same v.y j q, ← whole_same v.z k r) (taken_becomes m v x)
 
 pub becomes_fits : (m : Move) (i j k : ℤ) → is_taken (in_voxels m) i j k ≡ true → Becomes m (axes i j k)
-becomes_fits (MoveV.Voxels a b c) i j k e =
-    let (p, f) = both_true (is_whole a i) (is_whole b j && is_whole c k) e in
-    let (q, r) = both_true (is_whole b j) (is_whole c k) f in
-    each_axis _ (sym (whole_same a i p)) (sym (whole_same b j q)) (sym (whole_same c k r))
-becomes_fits (MoveV.Metres d) i j k e = metres_become d i j k (edged (leb d.s finest) d) (edged_is d) e
+becomes_fits m i j k e = whole_becomes m i j k (in_voxels m) (taken m) e

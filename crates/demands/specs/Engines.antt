@@ -1,11 +1,11 @@
 -- Ticket 5 of document 02: "Prove, once for all its depths, that with room it accepts what the list engine accepts and gives the same voxels", as laws of any two
 -- calls, one on lists and one on bits. The theorems of proofs/ say that the library's calls keep them. Definitions only.
+use Rattle.records.specs.Lookups.{LookupAnswer}
 use Rattle.std.specs.Prelude.{◌≡◌, ◌⊎◌, true, List, ℕ, ◌*◌, ◌^◌, ◌<◌, ◌≤◌, get_or, take}
 use Rattle.cells.specs.Cell.{holds}
 use Rattle.cells.specs.declared.Answer.{Answer}
 use Rattle.records.specs.Record.{black, Good}
 use Rattle.records.specs.Calls.{CheckOf}
-use Rattle.records.specs.declared.lookups.Finding.{Finding}
 use Rattle.metres.specs.declared.Move.{Move}
 use Rattle.plain.specs.Bits.{bytes_for, bit_at, black_in}
 use Rattle.plain.specs.Calls.{deepest_plain}
@@ -89,4 +89,4 @@ CombinesAlike C K =
 
 -- a voxel looked up in a list, and in its bits: the same answer and level, refusals too
 abbrev pub LooksAlike : Looker → Looker → Type 0
-LooksAlike L K = (D : ℕ) (l b : List ℕ) → D ≤ deepest_plain → SameVoxels D l b → (x y z : ℕ) (r s : Finding) → L D l x y z r → K D b x y z s → Roomy s.answer → s ≡ r
+LooksAlike L K = (D : ℕ) (l b : List ℕ) → D ≤ deepest_plain → SameVoxels D l b → (x y z : ℕ) (r s : LookupAnswer) → L D l x y z r → K D b x y z s → Roomy s.answer → s ≡ r

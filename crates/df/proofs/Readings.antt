@@ -1,7 +1,8 @@
 -- The reading of a cell: a leaf, a wrong byte, and eight children one after the other. Assumes nothing.
 use mathlib.Core.Path.{◌≡◌, refl, sym, ap, ◌∙◌, subst}
-use mathlib.Core.Logic.{◌⊎◌, inl, inr, ⊎_elim}
-use mathlib.Core.Bool.{Bool, false}
+use mathlib.Core.Logic.{⊎_elim}
+use mathlib.Core.Bool.{Bool, true, false}
+use Rattle.std.specs.Prelude.{Option, Some, None}
 use mathlib.Core.List.{List, [], ◌∷◌}
 use Prim.Native.Nat.{ℕ, suc, ◌+◌, ◌*◌, ◌^◌, ◌<◌, ◌≤◌}
 use native.Mathlib.Nat.{le_of_suc-le-suc, eq-or-lt_of_le, zero-mul, zero-add}
@@ -15,97 +16,94 @@ use Rattle.emit.specs.Inner.{Ready, fresh, Fed}
 use Rattle.emit.proofs.Runs.{ready_none, fed_to}
 use Rattle.emit.proofs.Children.{Children, children_none, children_more, children_all}
 use Rattle.df.specs.Df.{Tree, leaf, gray, letter, opening, texts, spell, Allowed, shows}
-use Rattle.df.specs.Inner.{Reads, Stuck, head_of, InCommon, Ahead, CellRead, ReadCell}
+use Rattle.df.specs.Inner.{Reads, Stuck, head_of, byte_of, Alike, InCommon, Ahead, CellRead}
+use Rattle.df.specs.declared.inner.Head.{Head}
+use Rattle.df.specs.declared.inner.Head.TheVariants.{Open, Black, White}
+use Rattle.df.specs.declared.inner.reading.Cell.{Cell}
 use Rattle.df.specs.declared.inner.reading.Reader.{Reader}
 use Rattle.df.proofs.Kids.{shows_child, up_to, up_to_below, up_to_from, one_more, texts_and_one}
-use Rattle.df.proofs.Spells.{letter_opens, letter_some, head_some, head_leaf}
-use Rattle.df.proofs.Halves.{reads_none, reads_byte, reads_then, reads_as, stuck_child, stuck_eighth}
+use Rattle.df.proofs.Spells.{letter_opens, head_leaf}
+use Rattle.df.proofs.Halves.{reads_none, reads_byte, reads_then, reads_as, stuck_here, stuck_child, stuck_eighth}
 
 -- ---- a cell
 
-module _ {D : ℕ} {t : List ℕ} {n from : ℕ} {o : List ℕ} {r : Reader} {out : List ℕ} {s : Reader} where
-  -- the text is wrong
-  pub cell_stuck : {e : ℕ} → Stuck n t r.at e → (s.at ≡ e) × (s.head ≡ 0) → ReadCell D t n from o r out s
-  cell_stuck x (place, none) = record { read = λ some. absurd (some none); stuck = λ z. subst (Stuck n t r.at) (sym place) x }
+-- a leaf
+pub leaf_read : {D : ℕ} {t : List ℕ} {n from : ℕ} {o : List ℕ} {r : Reader} {out : List ℕ} {s : Cell} (b : Bool) → r.at < length t → get_or t r.at 0 ≡ letter b → letter b ≡ byte_of s.head → s.after.at ≡ r.at + 1
+    → ((P : ℕ → Bool) → ((v : ℕ) → from ≤ v → v < from + 8 ^ n → P v ≡ b) → Fed D P from (from + 8 ^ n) o r.runs out s.after.runs) → CellRead D t n from o r out s
+unfolding spell head_of Allowed shows
+leaf_read {t = t} {r = r} b more byte head place fed = record {
+  tree = leaf b;
+  allowed = tt;
+  reads = subst (Reads t r.at (letter b ∷ [])) (sym place) (reads_as (ap (λ (x : ℕ). x ∷ []) byte) (reads_byte t r.at more));
+  head = head;
+  fed = fed;
+}
 
-  -- a cell that is read
-  pub cell_read : CellRead D t n from o r out s → ReadCell D t n from o r out s
-  cell_read x = record { read = λ some. x; stuck = λ z. absurd (head_some x.tree (sym x.head ∙ z)) }
-
-  -- a leaf
-  pub leaf_read : (b : Bool) → r.at < length t → get_or t r.at 0 ≡ letter b → s.at ≡ r.at + 1 → s.head ≡ get_or t r.at 0
-      → ((P : ℕ → Bool) → ((v : ℕ) → from ≤ v → v < from + 8 ^ n → P v ≡ b) → Fed D P from (from + 8 ^ n) o r.runs out s.runs) → ReadCell D t n from o r out s
-  unfolding spell head_of Allowed shows
-  leaf_read b more byte place head fed = cell_read (record {
-    tree = leaf b;
-    allowed = tt;
-    reads = subst (Reads t r.at (letter b ∷ [])) (sym place) (reads_as (ap (λ (x : ℕ). x ∷ []) byte) (reads_byte t r.at more));
-    head = head ∙ byte;
-    fed = fed;
-  })
+-- a byte that is no head is wrong
+pub no_head : (n : ℕ) (t : List ℕ) (a : ℕ) → a ≤ length t → ((h : Head) → get_or t a 0 ≡ byte_of h → ⊥) → Stuck n t a a
+no_head n t a h none = stuck_here n t a h no_letter (λ e. absurd (none Open e))
+  where
+    no_letter : (b : Bool) → get_or t a 0 ≡ letter b → ⊥
+    no_letter true e = none Black e
+    no_letter false e = none White e
 
 -- ---- what the children have in common
 
+-- heads of one byte are the same
+byte_one : (a h : Head) → byte_of a ≡ byte_of h → a ≡ h
+byte_one Open Open e = refl
+byte_one Open Black e = absurd (omega arith)
+byte_one Open White e = absurd (omega arith)
+byte_one Black Open e = absurd (omega arith)
+byte_one Black Black e = refl
+byte_one Black White e = absurd (omega arith)
+byte_one White Open e = absurd (omega arith)
+byte_one White Black e = absurd (omega arith)
+byte_one White White e = refl
+
 -- children that are the same below m have the same in common
-common_same : (c d : ℕ → Tree) (m a : ℕ) → ((i : ℕ) → i < m → c i ≡ d i) → InCommon c m a → InCommon d m a
-common_same c d m a same x = record {
-  kinds = x.kinds;
-  one = λ b e i h. sym (same i h) ∙ x.one b e i h;
-  mixed = λ e b all. x.mixed e b (λ i h. same i h ∙ all i h);
-}
+alike_same : (c d : ℕ → Tree) (m : ℕ) (h : Head) → ((i : ℕ) → i < m → c i ≡ d i) → Alike c m h → Alike d m h
+alike_same c d m Open same x = λ b all. x b (λ i h. same i h ∙ all i h)
+alike_same c d m Black same x = λ i h. sym (same i h) ∙ x i h
+alike_same c d m White same x = λ i h. sym (same i h) ∙ x i h
 
-common_none : (c : ℕ → Tree) → InCommon c 0 0
-common_none c = record { kinds = inl (refl, refl); one = λ b e i h. absurd (omega arith); mixed = λ e b all. omega arith }
-
--- what a tree's head can be
-head_kinds : (T : Tree) (h : ℕ) → head_of T ≡ h → ((b : Bool) × (h ≡ letter b)) ⊎ (h ≡ opening)
-unfolding head_of
-head_kinds (leaf b) h e = inl (b, sym e)
-head_kinds (gray c) h e = inr (sym e)
+common_same : (c d : ℕ → Tree) (m : ℕ) (a : Option Head) → ((i : ℕ) → i < m → c i ≡ d i) → InCommon c m a → InCommon d m a
+common_same c d m None same x = x
+common_same c d m (Some h) same x = (x.0, alike_same c d m h same x.1)
 
 leaf_head : (T : Tree) (b : Bool) → T ≡ leaf b → head_of T ≡ letter b
 unfolding head_of
 leaf_head T b e = ap head_of e
 
 -- one child more, which begins with h
-module _ (c : ℕ → Tree) (m a h : ℕ) (x : InCommon c m a) (head : head_of (c m) ≡ h) where
-  -- it is the first
-  pub common_first : a ≡ 0 → InCommon c (suc m) h
-  common_first z = record {
-    kinds = inr (omega arith, head_kinds (c m) h head);
-    one = λ b e i l. let k : i ≡ m = omega (arith, none) in rw k (head_leaf (c m) b (head ∙ e));
-    mixed = λ e b all. letter_opens b (sym (leaf_head (c m) b (all m (omega arith))) ∙ head ∙ e);
-  }
-    where
-      go : ((a ≡ 0) × (m ≡ 0)) ⊎ ((0 < m) × (((b : Bool) × (a ≡ letter b)) ⊎ (a ≡ opening))) → m ≡ 0
-      go (inl (_, k)) = k
-      go (inr (_, inl (b, e))) = absurd (letter_some b (sym e ∙ z))
-      go (inr (_, inr e)) = absurd (omega arith)
-
-      none : m ≡ 0
-      none = go x.kinds
-
+module _ (c : ℕ → Tree) (m : ℕ) where
   -- it begins as the others do
-  pub common_more : a ≡ h → InCommon c (suc m) h
-  common_more k = record {
-    kinds = inr (omega arith, head_kinds (c m) h head);
-    one = λ b e i l. ⊎_elim (λ (j : i ≡ m). rw j (head_leaf (c m) b (head ∙ e))) (λ (j : i < m). x.one b (k ∙ e) i j) (eq-or-lt_of_le (le_of_suc-le-suc l));
-    mixed = λ e b all. x.mixed (k ∙ e) b (λ i l. all i (omega arith));
-  }
+  alike_more : (h : Head) → head_of (c m) ≡ byte_of h → (0 < m → Alike c m h) → Alike c (suc m) h
+  alike_more Open head x = λ b all. letter_opens b (sym (leaf_head (c m) b (all m (omega arith))) ∙ head)
+  alike_more Black head x = λ i l. ⊎_elim (λ (j : i ≡ m). rw j (head_leaf (c m) true head)) (λ (j : i < m). x (omega arith) i j) (eq-or-lt_of_le (le_of_suc-le-suc l))
+  alike_more White head x = λ i l. ⊎_elim (λ (j : i ≡ m). rw j (head_leaf (c m) false head)) (λ (j : i < m). x (omega arith) i j) (eq-or-lt_of_le (le_of_suc-le-suc l))
 
   -- it does not
-  pub common_mixed : (a ≡ 0 → ⊥) → (a ≡ h → ⊥) → InCommon c (suc m) opening
-  common_mixed some other = record { kinds = inr (omega arith, inr refl); one = λ b e. absurd (letter_opens b (sym e)); mixed = λ e b all. go b all x.kinds }
+  alike_mixed : (a h : Head) → (a ≡ h → ⊥) → head_of (c m) ≡ byte_of h → 0 < m → Alike c m a → Alike c (suc m) Open
+  alike_mixed a h other head some x = λ b all. other (byte_one a h (first a x b (all 0 (omega arith)) (λ i l. all i (omega arith)) ∙ sym (leaf_head (c m) b (all m (omega arith))) ∙ head))
     where
-      go : (b : Bool) → ((i : ℕ) → i < suc m → c i ≡ leaf b) → ((a ≡ 0) × (m ≡ 0)) ⊎ ((0 < m) × (((b : Bool) × (a ≡ letter b)) ⊎ (a ≡ opening))) → ⊥
-      go b all (inl (z, _)) = some z
-      go b all (inr (l, inl (d, e))) = other (e ∙ sym (leaf_head (c 0) d (x.one d e 0 l)) ∙ leaf_head (c 0) b (all 0 (omega arith)) ∙ sym (leaf_head (c m) b (all m (omega arith))) ∙ head)
-      go b all (inr (l, inr e)) = x.mixed e b (λ i g. all i (omega arith))
+      first : (a : Head) → Alike c m a → (b : Bool) → c 0 ≡ leaf b → ((i : ℕ) → i < m → c i ≡ leaf b) → byte_of a ≡ letter b
+      first Open y b e all = absurd (y b all)
+      first Black y b e all = sym (leaf_head (c 0) true (y 0 some)) ∙ leaf_head (c 0) b e
+      first White y b e all = sym (leaf_head (c 0) false (y 0 some)) ∙ leaf_head (c 0) b e
+
+  -- the first child, or one that begins as the others do
+  pub common_more : (a : Option Head) (h : Head) → head_of (c m) ≡ byte_of h → InCommon c m a → ((b : Head) → a ≡ Some b → b ≡ h) → InCommon c (suc m) (Some h)
+  common_more None h head x same = (omega arith, alike_more h head (λ l. absurd (omega arith)))
+  common_more (Some b) h head x same = (omega arith, alike_more h head (λ l. subst (Alike c m) (same b refl) x.1))
+
+  pub common_mixed : (a h : Head) → head_of (c m) ≡ byte_of h → InCommon c m (Some a) → (a ≡ h → ⊥) → InCommon c (suc m) (Some Open)
+  common_mixed a h head x other = (omega arith, alike_mixed a h other head x.0 x.1)
 
 -- ---- eight children
 
 -- the first m children are read, n levels left under each, from the reading r on: the next begins at voxel v, and `alike` is what they have in common
-pub record KidsRead (D : ℕ) (t : List ℕ) (n from : ℕ) (o : List ℕ) (r : Reader) (out : List ℕ) (s : Reader) (v alike m : ℕ) : Type 0 where
+pub record KidsRead (D : ℕ) (t : List ℕ) (n from : ℕ) (o : List ℕ) (r : Reader) (out : List ℕ) (s : Reader) (v : ℕ) (alike : Option Head) (m : ℕ) : Type 0 where
   pub turns : m ≤ 8
   pub trees : ℕ → Tree
   pub allowed : (i : ℕ) → i < m → Allowed n (trees i)
@@ -114,11 +112,11 @@ pub record KidsRead (D : ℕ) (t : List ℕ) (n from : ℕ) (o : List ℕ) (r : 
   pub fed : (P : ℕ → Bool) → ((i : ℕ) → i < m → (u : ℕ) → from + i * 8 ^ n ≤ u → u < from + i * 8 ^ n + 8 ^ n → P u ≡ shows n (trees i) u) → Children D P from o r.runs (8 ^ n) out s.runs v m
 
 module _ {D : ℕ} {t : List ℕ} {n from : ℕ} {o : List ℕ} {r : Reader} where
-  pub kids_none : r.at ≤ length t → Ready D r.runs from → KidsRead D t n from o r o r from 0 0
+  pub kids_none : r.at ≤ length t → Ready D r.runs from → KidsRead D t n from o r o r from None 0
   unfolding texts
-  kids_none h ready = record { turns = omega arith; trees = λ i. leaf false; allowed = λ i g. absurd (omega arith); reads = reads_none t r.at h; common = common_none _; fed = λ P agree. children_none ready }
+  kids_none h ready = record { turns = omega arith; trees = λ i. leaf false; allowed = λ i g. absurd (omega arith); reads = reads_none t r.at h; common = refl; fed = λ P agree. children_none ready }
 
-  module _ {out : List ℕ} {s : Reader} {v alike m : ℕ} (x : KidsRead D t n from o r out s v alike m) (cell : ℕ) (corner : from ≡ cell * 8 ^ suc n) where
+  module _ {out : List ℕ} {s : Reader} {v : ℕ} {alike : Option Head} {m : ℕ} (x : KidsRead D t n from o r out s v alike m) (cell : ℕ) (corner : from ≡ cell * 8 ^ suc n) where
     -- child i, as the voxels of the cell's tree
     in_child : (i u : ℕ) → i < 8 → from + i * 8 ^ n ≤ u → u < from + i * 8 ^ n + 8 ^ n → shows (suc n) (gray x.trees) u ≡ shows n (x.trees i) u
     in_child i u h lo hi = shows_child n x.trees cell i u h (omega (arith, child_edge cell i n)) (omega (arith, child_edge cell i n))
@@ -140,21 +138,20 @@ module _ {D : ℕ} {t : List ℕ} {n from : ℕ} {o : List ℕ} {r : Reader} whe
     }
 
     -- one child more
-    module _ {out' : List ℕ} {s' : Reader} {alike' : ℕ} (h : m < 8) (y : CellRead D t n v out s out' s') (shares : (c : ℕ → Tree) (j : ℕ) → InCommon c j alike → head_of (c j) ≡ s'.head → InCommon c (suc j) alike') (size : length out' ≡ length out) where
-      abbrev kids : ℕ → Tree
-      kids = up_to m x.trees y.tree
-
-      pub kids_next : KidsRead D t n from o r out' s' (v + 8 ^ n) alike' (m + 1)
-      kids_next = rw (add-one m) (record {
-        turns = omega arith;
-        trees = kids;
-        allowed = one_more (λ i T. Allowed n T) m x.trees y.tree x.allowed y.allowed;
-        reads = reads_as (sym (texts_and_one m x.trees y.tree)) (reads_then x.reads y.reads);
-        common = shares kids m (common_same x.trees kids m alike (λ i g. sym (up_to_below m x.trees y.tree i g)) x.common) (ap head_of (up_to_from m x.trees y.tree m (omega arith)) ∙ sym y.head);
-        fed = λ P agree.
-            rw (← add-one m) (children_more (x.fed P (λ i g u lo hi. agree i (omega arith) u lo hi ∙ ap (λ (T : Tree). shows n T u) (up_to_below m x.trees y.tree i g))) h refl size
-            (y.fed P (λ u lo hi. agree m (omega arith) u (omega (arith, kids_fed.place)) (omega (arith, kids_fed.place)) ∙ ap (λ (T : Tree). shows n T u) (up_to_from m x.trees y.tree m (omega arith)))));
-      })
+    pub kids_next : {out' : List ℕ} {s' : Cell} {alike' : Head} → m < 8 → CellRead D t n v out s out' s' → ((c : ℕ → Tree) (j : ℕ) → InCommon c j alike → head_of (c j) ≡ byte_of s'.head → InCommon c (suc j) (Some alike'))
+        → length out' ≡ length out → KidsRead D t n from o r out' s'.after (v + 8 ^ n) (Some alike') (m + 1)
+    kids_next h y shares size =
+        let kids : ℕ → Tree = up_to m x.trees y.tree in
+        rw (add-one m) (record {
+          turns = omega arith;
+          trees = kids;
+          allowed = one_more (λ i T. Allowed n T) m x.trees y.tree x.allowed y.allowed;
+          reads = reads_as (sym (texts_and_one m x.trees y.tree)) (reads_then x.reads y.reads);
+          common = shares kids m (common_same x.trees kids m alike (λ i g. sym (up_to_below m x.trees y.tree i g)) x.common) (ap head_of (up_to_from m x.trees y.tree m (omega arith)) ∙ y.head);
+          fed = λ P agree.
+              rw (← add-one m) (children_more (x.fed P (λ i g u lo hi. agree i (omega arith) u lo hi ∙ ap (λ (T : Tree). shows n T u) (up_to_below m x.trees y.tree i g))) h refl size
+              (y.fed P (λ u lo hi. agree m (omega arith) u (omega (arith, kids_fed.place)) (omega (arith, kids_fed.place)) ∙ ap (λ (T : Tree). shows n T u) (up_to_from m x.trees y.tree m (omega arith)))));
+        })
 
     -- ---- the cell that opens one byte before them
 
@@ -171,30 +168,34 @@ module _ {D : ℕ} {t : List ℕ} {n from : ℕ} {o : List ℕ} {r : Reader} whe
         eight = omega (arith, x.turns)
 
         -- the eighth makes eight equal leaves
-        pub kids_eighth : {k : ℕ} → (alike ≡ opening → ⊥) → s.at ≡ k + 1 → Stuck (suc n) t a k
-        kids_eighth {k} one last = go x.common.kinds
+        pub kids_eighth : {k : ℕ} → (alike ≡ Some Open → ⊥) → s.at ≡ k + 1 → Stuck (suc n) t a k
+        kids_eighth {k} one last = go alike x.common one
           where
-            go : ((alike ≡ 0) × (m ≡ 0)) ⊎ ((0 < m) × (((b : Bool) × (alike ≡ letter b)) ⊎ (alike ≡ opening))) → Stuck (suc n) t a k
-            go (inl (_, z)) = absurd (omega arith)
-            go (inr (_, inl (b, e))) = stuck_eighth n x.trees b (λ i h. x.common.one b e i (omega arith)) t a k s.at (reads_as (ap (λ (j : ℕ). opening ∷ texts (λ i. spell (x.trees i)) j) eight) kids_reads) last
-            go (inr (_, inr e)) = absurd (one e)
+            whole : Reads t a (opening ∷ texts (λ i. spell (x.trees i)) 8) s.at
+            whole = reads_as (ap (λ (j : ℕ). opening ∷ texts (λ i. spell (x.trees i)) j) eight) kids_reads
+
+            go : (h : Option Head) → InCommon x.trees m h → (h ≡ Some Open → ⊥) → Stuck (suc n) t a k
+            go None z u = absurd (omega arith)
+            go (Some Open) z u = absurd (u refl)
+            go (Some Black) z u = stuck_eighth n x.trees true (λ i h. z.1 i (omega arith)) t a k s.at whole last
+            go (Some White) z u = stuck_eighth n x.trees false (λ i h. z.1 i (omega arith)) t a k s.at whole last
 
         -- the eight are read
-        pub kids_gray : {q s' : Reader} → q.at ≡ a → q.runs ≡ r.runs → alike ≡ opening → s'.at ≡ s.at → s'.head ≡ opening → s'.runs ≡ s.runs → CellRead D t (suc n) from o q out s'
+        pub kids_gray : {q : Reader} {s' : Cell} → q.at ≡ a → q.runs ≡ r.runs → alike ≡ Some Open → s'.after ≡ s → s'.head ≡ Open → CellRead D t (suc n) from o q out s'
         unfolding spell head_of Allowed
-        kids_gray {q} {s'} at runs mixed place head runs' = record {
+        kids_gray {q} {s'} at runs mixed after head = record {
           tree = gray x.trees;
-          allowed = (λ i h. x.allowed i (omega arith), λ b one. x.common.mixed mixed b (λ i h. one i (omega (arith, x.turns))));
-          reads = rw (at, place) (reads_as (ap (λ (j : ℕ). opening ∷ texts (λ i. spell (x.trees i)) j) eight) kids_reads);
-          head = head;
-          fed = λ P agree. rw (runs, runs') (children_all (x.fed P (λ i h u lo hi. agree u (omega arith) (omega (arith, child_within i (8 ^ n) (omega (arith, x.turns)), pow8_suc n)) ∙ in_child i u (omega (arith, x.turns)) lo hi)) (8 ^ suc n) all (pow8_suc n));
+          allowed = (λ i h. x.allowed i (omega arith), λ b one. (rw mixed at x.common).1 b (λ i h. one i (omega (arith, x.turns))));
+          reads = rw (at, after) (reads_as (ap (λ (j : ℕ). opening ∷ texts (λ i. spell (x.trees i)) j) eight) kids_reads);
+          head = rw head refl;
+          fed = λ P agree. rw (runs, after) (children_all (x.fed P (λ i h u lo hi. agree u (omega arith) (omega (arith, child_within i (8 ^ n) (omega (arith, x.turns)), pow8_suc n)) ∙ in_child i u (omega (arith, x.turns)) lo hi)) (8 ^ suc n) all (pow8_suc n));
         }
 
 -- ---- the root
 
 -- the text can be read from its beginning
-pub root_ahead : (D : ℕ) (t : List ℕ) (h : ℕ) → D ≤ deepest → Ahead D t D 0 (record { at = 0; head = h; runs = fresh 0 0 })
-root_ahead D t h deep = record {
+pub root_ahead : (D : ℕ) (t : List ℕ) → D ≤ deepest → Ahead D t D 0 (record { at = 0; runs = fresh 0 0 })
+root_ahead D t deep = record {
   deep = deep;
   level = omega arith;
   root = omega arith;
@@ -205,5 +206,5 @@ root_ahead D t h deep = record {
 }
 
 -- all its voxels are fed
-pub root_fed : {D : ℕ} {t o out : List ℕ} {h : ℕ} {s : Reader} (x : CellRead D t D 0 o (record { at = 0; head = h; runs = fresh 0 0 }) out s) → Fed D (shows D x.tree) 0 (8 ^ D) o (fresh 0 0) out s.runs
+pub root_fed : {D : ℕ} {t o out : List ℕ} {s : Cell} (x : CellRead D t D 0 o (record { at = 0; runs = fresh 0 0 }) out s) → Fed D (shows D x.tree) 0 (8 ^ D) o (fresh 0 0) out s.after.runs
 root_fed {D} x = fed_to D (shows D x.tree) (zero-add (8 ^ D)) (x.fed (shows D x.tree) (λ v lo hi. refl))

@@ -144,13 +144,12 @@ module _ {D k at : ℕ} {l : List ℕ} {s : Slot} (x : Spelling D l k s at) (mix
 
 -- the texts of the first m are put
 pub record TextsPut (D : ℕ) (l : List ℕ) (k : ℕ) (p : List Slot) (o : List ℕ) (at m : ℕ) (after : List ℕ) (r : ℕ) : Type 0 where
-  pub size : length after ≡ length o
   pub turns : m ≤ 8
   pub near : r + m ≤ at + m * most_bytes k
   pub spelled : (b : ℕ) → ((i : ℕ) → i < 8 → Of D l k (8 * b + i) (slot_at p i)) → KidsSpelled (black D l) k b m o at after r
 
 pub texts_none : {D k at : ℕ} {l : List ℕ} {p : List Slot} {o : List ℕ} → TextsPut D l k p o at 0 o at
-texts_none {k = k} = record { size = refl; turns = omega arith; near = omega (arith, zero-mul (most_bytes k)); spelled = λ b parts. spelled_none }
+texts_none {k = k} = record { turns = omega arith; near = omega (arith, zero-mul (most_bytes k)); spelled = λ b parts. spelled_none }
 
 module _ {D k at m r : ℕ} {l : List ℕ} {p : List Slot} {o after : List ℕ} (x : KidsSpelling D l k p at) (c : TextsPut D l k p o at m after r) where
   -- there is room for the next
@@ -162,11 +161,10 @@ module _ {D k at m r : ℕ} {l : List ℕ} {p : List Slot} {o after : List ℕ} 
       room (inr g) = omega (arith, x.room, pow8_suc k, c.near, child_within m (most_bytes k) h)
 
   -- one more
-  pub texts_more : {after' : List ℕ} {r' : ℕ} → m < 8 → length after' ≡ length after → ((b : ℕ) → Of D l k b (slot_at p m) → Spelled (black D l) k b after r after' r') → TextsPut D l k p o at (m + 1) after' r'
-  texts_more h size put =
+  pub texts_more : {after' : List ℕ} {r' : ℕ} → m < 8 → ((b : ℕ) → Of D l k b (slot_at p m) → Spelled (black D l) k b after r after' r') → TextsPut D l k p o at (m + 1) after' r'
+  texts_more h put =
       let y = put (x.held m h).cell (x.held m h).part in
       record {
-        size = size ∙ c.size;
         turns = omega arith;
         near = omega (arith, c.near, y.put.place, spell_short k y.tree y.is_tree.allowed, suc-mul m (most_bytes k), ap (λ (i : ℕ). i * most_bytes k) (add-one m));
         spelled = λ b parts. spelled_more (c.spelled b parts) (put (8 * b + m) (parts m h));

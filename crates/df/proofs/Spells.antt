@@ -27,12 +27,6 @@ pub letter_some : (b : Bool) → letter b ≡ 0 → ⊥
 letter_some true e = omega arith
 letter_some false e = omega arith
 
--- no text begins with 0
-pub head_some : (T : Tree) → head_of T ≡ 0 → ⊥
-unfolding head_of
-head_some (leaf b) e = letter_some b e
-head_some (gray c) e = omega arith
-
 -- the tree of a letter is a leaf
 pub head_leaf : (T : Tree) (b : Bool) → head_of T ≡ letter b → T ≡ leaf b
 unfolding head_of

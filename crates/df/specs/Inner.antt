@@ -1,5 +1,5 @@
 -- INNER: for the contracts of the two descents. Definitions only.
-use Rattle.std.specs.Prelude.{◌≡◌, ◌⊎◌, Bool, List, [], ◌∷◌, ◌++◌, ℕ, suc, ◌+◌, ◌*◌, ◌^◌, ◌<◌, ◌≤◌, length, get_or, drop}
+use Rattle.std.specs.Prelude.{◌≡◌, ◌⊎◌, Bool, true, false, Option, Some, None, List, [], ◌∷◌, ◌++◌, ℕ, suc, ◌+◌, ◌*◌, ◌^◌, ◌<◌, ◌≤◌, length, get_or, drop}
 use Rattle.cells.specs.Answer.{given, Decided, alone, deepest}
 use Rattle.cells.specs.declared.Answer.{Answer}
 use Rattle.records.specs.Record.{Good}
@@ -8,6 +8,9 @@ use Rattle.records.specs.declared.inner.slots.Slot.{Slot}
 use Rattle.emit.specs.Inner.{Ready, Fed, Result}
 use Rattle.text.specs.Inner.{Put}
 use Rattle.df.specs.Df.{Tree, leaf, gray, letter, opening, texts, spell, Allowed, shows, Acceptable, WrongByte, StopsEarly}
+use Rattle.df.specs.declared.inner.Head.{Head}
+use Rattle.df.specs.declared.inner.Head.TheVariants.{Open, Black, White}
+use Rattle.df.specs.declared.inner.reading.Cell.{Cell}
 use Rattle.df.specs.declared.inner.reading.Reader.{Reader}
 
 -- ---- a list spelled
@@ -70,11 +73,32 @@ unfoldable pub head_of : Tree → ℕ
 head_of (leaf b) = letter b
 head_of (gray c) = opening
 
--- what a says of the first m children c: 0 where there is none, the letter of the leaf that all of them are, `opening` where they are not one leaf
-pub record InCommon (c : ℕ → Tree) (m a : ℕ) : Type 0 where
-  pub kinds : ((a ≡ 0) × (m ≡ 0)) ⊎ ((0 < m) × (((b : Bool) × (a ≡ letter b)) ⊎ (a ≡ opening)))
-  pub one : (b : Bool) → a ≡ letter b → (i : ℕ) → i < m → c i ≡ leaf b
-  pub mixed : a ≡ opening → (b : Bool) → ((i : ℕ) → i < m → c i ≡ leaf b) → ⊥
+-- the byte of a head
+abbrev pub byte_of : Head → ℕ
+byte_of Open = opening
+byte_of Black = letter true
+byte_of White = letter false
+
+-- the head that a byte is, or none
+abbrev pub HeadOf : ℕ → Option Head → Type 0
+HeadOf x None = (h : Head) → x ≡ byte_of h → ⊥
+HeadOf x (Some h) = x ≡ byte_of h
+
+-- the head at place a of t: there is none past the end, where the byte is 0
+abbrev pub HeadAt : List ℕ → ℕ → Option Head → Type 0
+HeadAt t a None = (h : Head) → get_or t a 0 ≡ byte_of h → ⊥
+HeadAt t a (Some h) = (a < length t) × (get_or t a 0 ≡ byte_of h)
+
+-- what a head says of the first m children c: the letter of the leaf that all of them are, or `Open`, where they are not one leaf
+abbrev pub Alike : (ℕ → Tree) → ℕ → Head → Type 0
+Alike c m Open = (b : Bool) → ((i : ℕ) → i < m → c i ≡ leaf b) → ⊥
+Alike c m Black = (i : ℕ) → i < m → c i ≡ leaf true
+Alike c m White = (i : ℕ) → i < m → c i ≡ leaf false
+
+-- what the first m children c have in common: nothing where there is none
+abbrev pub InCommon : (ℕ → Tree) → ℕ → Option Head → Type 0
+InCommon c m None = m ≡ 0
+InCommon c m (Some h) = (0 < m) × Alike c m h
 
 -- the text t can be read on for the cell with n levels left whose least voxel is `from`; the emitter is ready for it
 pub record Ahead (D : ℕ) (t : List ℕ) (n from : ℕ) (r : Reader) : Type 0 where
@@ -93,17 +117,12 @@ pub record Opens (D : ℕ) (t : List ℕ) (n from : ℕ) (r : Reader) : Type 0 w
   pub opens : get_or t r.at 0 ≡ opening
 
 -- the cell is read: its tree is spelled by the bytes read, and the emitter is fed with its voxels
-pub record CellRead (D : ℕ) (t : List ℕ) (n from : ℕ) (o : List ℕ) (r : Reader) (out : List ℕ) (s : Reader) : Type 0 where
+pub record CellRead (D : ℕ) (t : List ℕ) (n from : ℕ) (o : List ℕ) (r : Reader) (out : List ℕ) (s : Cell) : Type 0 where
   pub tree : Tree
   pub allowed : Allowed n tree
-  pub reads : Reads t r.at (spell tree) s.at
-  pub head : s.head ≡ head_of tree
-  pub fed : (P : ℕ → Bool) → ((v : ℕ) → from ≤ v → v < from + 8 ^ n → P v ≡ shows n tree v) → Fed D P from (from + 8 ^ n) o r.runs out s.runs
-
--- the cell is read, or the text is wrong
-pub record ReadCell (D : ℕ) (t : List ℕ) (n from : ℕ) (o : List ℕ) (r : Reader) (out : List ℕ) (s : Reader) : Type 0 where
-  pub read : (s.head ≡ 0 → ⊥) → CellRead D t n from o r out s
-  pub stuck : s.head ≡ 0 → Stuck n t r.at s.at
+  pub reads : Reads t r.at (spell tree) s.after.at
+  pub head : head_of tree ≡ byte_of s.head
+  pub fed : (P : ℕ → Bool) → ((v : ℕ) → from ≤ v → v < from + 8 ^ n → P v ≡ shows n tree v) → Fed D P from (from + 8 ^ n) o r.runs out s.after.runs
 
 -- the whole text: number 10, or the good list of its voxels is put over o, as far as there is room, and its leaves are counted
 abbrev pub ReadTextOf : ℕ → List ℕ → List ℕ → List ℕ → Answer → Type 0

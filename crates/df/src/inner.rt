@@ -1,10 +1,39 @@
 // INNER: the descents of DF text, into eight children in label order, the levels left falling.
+ghost use Rattle.std.specs.Prelude.{◌≡◌};
+ghost use Rattle.df.specs.Inner.{byte_of, HeadOf};
+
 pub mod reading;
 pub mod spelling;
 
-// The bytes of a text: a gray cell opens, a black leaf, a white leaf.
-pub const OPEN: u8 = 40;
+// How the text of a cell begins: a gray cell opens, a leaf has the letter of its colour.
+#[derive(Clone, Copy, PartialEq)]
+pub enum Head {
+    Open,
+    Black,
+    White,
+}
 
-pub const BLACK: u8 = 66;
+impl Head {
+    // The byte of a head.
+    pub fn byte(self) -> u8
+        ensures { result ≡ byte_of self }
+    {
+        match self {
+            Head::Open => b'(',
+            Head::Black => b'B',
+            Head::White => b'W',
+        }
+    }
 
-pub const WHITE: u8 = 87;
+    // The head that a byte is; a byte that is none stands in no text.
+    pub fn of(byte: u8) -> Option<Head>
+        ensures { HeadOf byte result }
+    {
+        match byte {
+            b'(' => Some(Head::Open),
+            b'B' => Some(Head::Black),
+            b'W' => Some(Head::White),
+            _ => None,
+        }
+    }
+}

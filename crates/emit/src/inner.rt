@@ -6,8 +6,8 @@ ghost use Rattle.emit.specs.Inner.{Fit, Ready, Next, fresh, Emitted, Fed, Result
 
 use cells::inner::pow8;
 
-// The pending black run [from, to), and how many codes stand before it.
-#[derive(Clone, Copy)]
+// The pending black run [from, to), and how many codes stand before it; by default none of either, at the first voxel.
+#[derive(Clone, Copy, Default)]
 pub struct Runs {
     pub from: u32,
     pub to: u32,
@@ -68,18 +68,10 @@ pub fn push(depth: u32, r: Runs, black: bool, from: u32, to: u32, out: &mut [u32
         return r;
     }
     if r.to == from {
-        return Runs {
-            from: r.from,
-            to: to,
-            at: r.at,
-        };
+        return Runs { to, ..r };
     }
     let at = flush(depth, r, from, out);
-    Runs {
-        from: from,
-        to: to,
-        at: at,
-    }
+    Runs { from, to, at }
 }
 
 // The end, where all voxels are known: the last run is written, and the leaves are counted.

@@ -1,42 +1,35 @@
-// DF text, ticket 1 of document 02: texts read, lists written, and each refusal.
+// DF text: texts read, lists written, and each refusal.
 use df::{df_read, df_write};
-use printing::inner::print;
+use printing::inner::print::{Items, Written, told};
 use std::io;
 
-// A text read to a buffer of eight places: the answer, and the list.
-fn read_from(rt: &impl Print, depth: u32, text: &[u8]) -> io::Result<()> {
-    let mut codes = [0u32; 8];
-    print::text(rt, b"df_read")?;
-    print::number(rt, depth as u64)?;
-    print::text(rt, b" ")?;
-    print::text(rt, text)?;
-    let r = df_read(depth, text, &mut codes);
-    print::answer(rt, r)?;
-    print::front(rt, r, &codes)?;
-    print::end(rt)
+// A text read to a buffer, with what is said of its room: the answer, and the list.
+fn read_from(
+    rt: &impl Print,
+    depth: u32,
+    text: &str,
+    room: &str,
+    codes: &mut [u32],
+) -> io::Result<()> {
+    let answer = df_read(depth, text.as_bytes(), codes);
+    println!(rt; "df_read {depth} {text}{room}: {}", Written(answer, codes))
 }
 
-// The same, to a buffer with no place.
-fn read_crowded(rt: &impl Print, depth: u32, text: &[u8]) -> io::Result<()> {
-    print::text(rt, b"df_read")?;
-    print::number(rt, depth as u64)?;
-    print::text(rt, b" ")?;
-    print::text(rt, text)?;
-    print::text(rt, b" room 0")?;
-    print::answer(rt, df_read(depth, text, &mut []))?;
-    print::end(rt)
+// The same to eight places.
+fn read(rt: &impl Print, depth: u32, text: &str) -> io::Result<()> {
+    read_from(rt, depth, text, "", &mut [0; 8])
 }
 
 // A list written to 25 bytes: the answer, and the text.
 fn written(rt: &impl Print, depth: u32, list: &[u32]) -> io::Result<()> {
     let mut bytes = [0u8; 25];
-    print::text(rt, b"df_write")?;
-    print::number(rt, depth as u64)?;
-    print::codes(rt, list)?;
-    let r = df_write(depth, list, &mut bytes);
-    print::answer(rt, r)?;
-    print::front_text(rt, r, &bytes)?;
-    print::end(rt)
+    let answer = df_write(depth, list, &mut bytes);
+    print!(rt; "df_write {depth} {}: {}", Items(list), told(answer))?;
+    if let Some(text) = answer.ok().and_then(|n| bytes.get(..n)) {
+        print!(rt; " ")?;
+        rt.write_all(text)?;
+    }
+    rt.println("")
 }
 
 pub fn run(rt: &impl Print) -> io::Result<()> {
@@ -52,20 +45,20 @@ pub fn run(rt: &impl Print) -> io::Result<()> {
     written(rt, 1, &[8, 9, 10, 11, 12, 13, 14, 15])?;
     written(rt, 3, &[559, 1023])?;
     // the same texts read
-    read_from(rt, 3, b"W")?;
-    read_from(rt, 3, b"B")?;
-    read_from(rt, 1, b"(BWWWWWWW")?;
-    read_from(rt, 3, b"((WWWWW(WWWWWWWBWWWWWWWWW")?;
+    read(rt, 3, "W")?;
+    read(rt, 3, "B")?;
+    read(rt, 1, "(BWWWWWWW")?;
+    read(rt, 3, "((WWWWW(WWWWWWWBWWWWWWWWW")?;
     // refused: the depth; a byte that is none of the three; a gray voxel; eight equal leaves; a byte after the root; a text that stops early; no room
-    read_from(rt, 11, b"W")?;
-    read_from(rt, 1, b"(BW W")?;
-    read_from(rt, 0, b"(")?;
-    read_from(rt, 1, b"(W(")?;
-    read_from(rt, 1, b"(BBBBBBBB")?;
-    read_from(rt, 2, b"(W(WWWWWWWW")?;
-    read_from(rt, 1, b"WB")?;
-    read_from(rt, 1, b"(BWWWWWWWW")?;
-    read_from(rt, 1, b"(BWW")?;
-    read_from(rt, 1, b"")?;
-    read_crowded(rt, 1, b"(BWWWWWWW")
+    read(rt, 11, "W")?;
+    read(rt, 1, "(BW W")?;
+    read(rt, 0, "(")?;
+    read(rt, 1, "(W(")?;
+    read(rt, 1, "(BBBBBBBB")?;
+    read(rt, 2, "(W(WWWWWWWW")?;
+    read(rt, 1, "WB")?;
+    read(rt, 1, "(BWWWWWWWW")?;
+    read(rt, 1, "(BWW")?;
+    read(rt, 1, "")?;
+    read_from(rt, 1, "(BWWWWWWW", " room 0", &mut [])
 }

@@ -1,8 +1,11 @@
 // Moves in whole voxels and in metres, each with so much room for its result.
 use metres::{Metres, Move};
 use moves::move_list;
-use printing::inner::print;
+use printing::inner::print::{Items, Written, places};
 use std::io;
+
+// A voxel of depth 10 in the middle of the root.
+const MIDDLE: [u32; 1] = [2013265920];
 
 fn whole(
     rt: &impl Print,
@@ -14,40 +17,28 @@ fn whole(
     room: usize,
 ) -> io::Result<()> {
     let mut space = [0u32; 64];
-    let out = print::places(&mut space, room);
-    let r = move_list(depth, list, Move::Voxels(dx, dy, dz), out);
-    print::text(rt, b"move")?;
-    print::number(rt, depth as u64)?;
-    print::codes(rt, list)?;
-    print::signed(rt, dx)?;
-    print::signed(rt, dy)?;
-    print::signed(rt, dz)?;
-    print::text(rt, b" room")?;
-    print::number(rt, out.len() as u64)?;
-    print::answer(rt, r)?;
-    print::front(rt, r, out)?;
-    print::end(rt)
+    let out = places(&mut space, room);
+    let answer = move_list(depth, list, Move::Voxels(dx, dy, dz), out);
+    let room = out.len();
+    println!(rt;
+        "move {depth} {} {dx} {dy} {dz} room {room}: {}",
+        Items(list),
+        Written(answer, out)
+    )
 }
 
-// In metres along x, under a name; a voxel of depth 10 in the middle of the root shows where it goes.
-fn metres_x(rt: &impl Print, name: &[u8], x: f64, y: f64, s: u32) -> io::Result<()> {
+// In metres along x, under a name: the middle voxel shows where it goes.
+fn metres_x(rt: &impl Print, name: &str, x: f64, y: f64, s: u32) -> io::Result<()> {
     let mut space = [0u32; 1];
-    let list = [2013265920u32];
     let d = Metres { x, y, z: 0.0, s };
-    let r = move_list(10, &list, Move::Metres(d), &mut space);
-    print::text(rt, b"metres ")?;
-    print::text(rt, name)?;
-    print::number(rt, s as u64)?;
-    print::answer(rt, r)?;
-    print::front(rt, r, &space)?;
-    print::end(rt)
+    let answer = move_list(10, &MIDDLE, Move::Metres(d), &mut space);
+    println!(rt; "metres {name} {s}: {}", Written(answer, &space))
 }
 
-// Over in metres along x and back by the negated metres, under a name: the voxel of depth 10 in the middle of the root, and where it stands then.
-fn over_and_back(rt: &impl Print, name: &[u8], x: f64, s: u32) -> io::Result<()> {
+// Over in metres along x and back by the negated metres, under a name: where the middle voxel stands then.
+fn over_and_back(rt: &impl Print, name: &str, x: f64, s: u32) -> io::Result<()> {
     let mut there = [0u32; 1];
     let mut back = [0u32; 1];
-    let list = [2013265920u32];
     let over = Metres {
         x,
         y: 0.0,
@@ -60,14 +51,9 @@ fn over_and_back(rt: &impl Print, name: &[u8], x: f64, s: u32) -> io::Result<()>
         z: -0.0,
         s,
     };
-    move_list(10, &list, Move::Metres(over), &mut there);
-    let r = move_list(10, &there, Move::Metres(opposite), &mut back);
-    print::text(rt, b"over and back ")?;
-    print::text(rt, name)?;
-    print::number(rt, s as u64)?;
-    print::answer(rt, r)?;
-    print::front(rt, r, &back)?;
-    print::end(rt)
+    let _ = move_list(10, &MIDDLE, Move::Metres(over), &mut there);
+    let answer = move_list(10, &there, Move::Metres(opposite), &mut back);
+    println!(rt; "over and back {name} {s}: {}", Written(answer, &back))
 }
 
 fn published(rt: &impl Print) -> io::Result<()> {
@@ -109,35 +95,35 @@ pub fn run(rt: &impl Print) -> io::Result<()> {
 
 fn rounded(rt: &impl Print) -> io::Result<()> {
     // a half goes away from zero
-    metres_x(rt, b"0.0625", 0.0625, 0.0, 3)?;
-    metres_x(rt, b"-0.0625", -0.0625, 0.0, 3)?;
-    metres_x(rt, b"0.1875", 0.1875, 0.0, 3)?;
-    metres_x(rt, b"-0.1875", -0.1875, 0.0, 3)?;
+    metres_x(rt, "0.0625", 0.0625, 0.0, 3)?;
+    metres_x(rt, "-0.0625", -0.0625, 0.0, 3)?;
+    metres_x(rt, "0.1875", 0.1875, 0.0, 3)?;
+    metres_x(rt, "-0.1875", -0.1875, 0.0, 3)?;
     // so a record that goes over and back stands where it stood
-    over_and_back(rt, b"0.0625", 0.0625, 3)?;
-    over_and_back(rt, b"-0.1875", -0.1875, 3)?;
+    over_and_back(rt, "0.0625", 0.0625, 3)?;
+    over_and_back(rt, "-0.1875", -0.1875, 3)?;
     // minus zero and the smallest floats give 0
-    metres_x(rt, b"-0.0", -0.0, 0.0, 3)?;
-    metres_x(rt, b"5e-324", 5e-324, 0.0, 3)?;
-    metres_x(rt, b"-5e-324", -5e-324, 0.0, 3)
+    metres_x(rt, "-0.0", -0.0, 0.0, 3)?;
+    metres_x(rt, "5e-324", 5e-324, 0.0, 3)?;
+    metres_x(rt, "-5e-324", -5e-324, 0.0, 3)
 }
 
 fn no_numbers(rt: &impl Print) -> io::Result<()> {
     // what is no whole number of 32 bits
-    metres_x(rt, b"infinity", 1e308 * 10.0, 0.0, 3)?;
-    metres_x(rt, b"-infinity", -1e308 * 10.0, 0.0, 3)?;
-    metres_x(rt, b"0, and no number along y", 0.0, 0.0 / 0.0, 3)?;
-    metres_x(rt, b"the largest float", 1.7976931348623157e308, 0.0, 3)?;
-    metres_x(rt, b"no number, edge number 11", 0.0 / 0.0, 0.0, 11)
+    metres_x(rt, "infinity", 1e308 * 10.0, 0.0, 3)?;
+    metres_x(rt, "-infinity", -1e308 * 10.0, 0.0, 3)?;
+    metres_x(rt, "0, and no number along y", 0.0, 0.0 / 0.0, 3)?;
+    metres_x(rt, "the largest float", 1.7976931348623157e308, 0.0, 3)?;
+    metres_x(rt, "no number, edge number 11", 0.0 / 0.0, 0.0, 11)
 }
 
 fn range_ends(rt: &impl Print) -> io::Result<()> {
     // the ends of the range: the rounded number is tested; one that is in range leaves the root
-    metres_x(rt, b"2147483647", 2147483647.0, 0.0, 0)?;
-    metres_x(rt, b"2147483647.5", 2147483647.5, 0.0, 0)?;
-    metres_x(rt, b"-2147483648.4999995", -2147483648.4999995, 0.0, 0)?;
-    metres_x(rt, b"-2147483648.5", -2147483648.5, 0.0, 0)?;
-    metres_x(rt, b"-2147483649", -2147483649.0, 0.0, 0)
+    metres_x(rt, "2147483647", 2147483647.0, 0.0, 0)?;
+    metres_x(rt, "2147483647.5", 2147483647.5, 0.0, 0)?;
+    metres_x(rt, "-2147483648.4999995", -2147483648.4999995, 0.0, 0)?;
+    metres_x(rt, "-2147483648.5", -2147483648.5, 0.0, 0)?;
+    metres_x(rt, "-2147483649", -2147483649.0, 0.0, 0)
 }
 
 pub fn run_metres(rt: &impl Print) -> io::Result<()> {

@@ -14,9 +14,8 @@ use Rattle.records.specs.Fault.{Faulty}
 use Rattle.records.specs.Writing.{stands}
 use Rattle.records.proofs.Writing.{writes_fitting, list_fitting}
 use Rattle.blocks.specs.Block.{depth_of, codes}
-use Rattle.blocks.specs.Calls.{Unsound, ReadOf}
+use Rattle.blocks.specs.Calls.{ReadAnswer, Unsound, ReadOf}
 use Rattle.blocks.specs.Inner.{Sound}
-use Rattle.blocks.specs.declared.Reading.{Reading}
 use Rattle.blocks.proofs.Sound.{all_blocks, codes_most, one_unsound, not_unsound}
 use Rattle.text.specs.Text.{path_lines, text_of, TextOf, refused_text, RefusedOf}
 use Rattle.text.specs.Inner.{longest_head, longest_path, head_line}
@@ -38,12 +37,12 @@ text_length D l h =
 -- ---- the calls, where there is room
 
 -- a refusal of the reader is never for room
-pub refused_printed : (b o : List ℕ) (r : Reading) (o' : List ℕ) → ReadOf b o r o' → (r.answer.number ≡ 0 → ⊥) → length b ≤ longest → most_codes ≤ length o → Printed b (refused_line r.answer)
-refused_printed b o r o' (inl (a, t, e)) some h room = inl (a, t, ap (λ (x : Reading × List ℕ). refused_line x.0.answer) e)
-refused_printed b o r o' (inr (p, inl (a, t, e))) some h room = inr (p, inl (a, t, ap (λ (x : Reading × List ℕ). refused_line x.0.answer) e))
+pub refused_printed : (b o : List ℕ) (r : ReadAnswer) (o' : List ℕ) → ReadOf b o r o' → (r.answer.number ≡ 0 → ⊥) → length b ≤ longest → most_codes ≤ length o → Printed b (refused_line r.answer)
+refused_printed b o r o' (inl (a, t, e)) some h room = inl (a, t, ap (λ (x : ReadAnswer × List ℕ). refused_line x.0.answer) e)
+refused_printed b o r o' (inr (p, inl (a, t, e))) some h room = inr (p, inl (a, t, ap (λ (x : ReadAnswer × List ℕ). refused_line x.0.answer) e))
 refused_printed b o r o' (inr (p, inr (q, inl (a, (short, _), e)))) some h room =
     absurd (omega (arith, few_codes b (not_unsound b p) h))
-refused_printed b o r o' (inr (p, inr (q, inr (_, e)))) some h room = absurd (some (ap (λ (x : Reading × List ℕ). x.0.answer.number) e))
+refused_printed b o r o' (inr (p, inr (q, inr (_, e)))) some h room = absurd (some (ap (λ (x : ReadAnswer × List ℕ). x.0.answer.number) e))
 
 -- what `list_text` and `refused_text` leave, which never lack room
 pub text_left : (D : ℕ) (l o : List ℕ) (r : Answer) (o' : List ℕ) → TextOf D l o r o' → D ≤ deepest → Good D l → length (text_of D l) ≤ length o → ◌≡◌ {A = Answer × List ℕ} (r, o') (given (length (text_of D l)), stands (text_of D l) o)

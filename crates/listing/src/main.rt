@@ -6,6 +6,7 @@ ghost use Rattle.std.specs.Prelude.{◌≤◌, length};
 ghost use Rattle.listing.specs.Listing.{longest, most_codes, longest_text, Page};
 
 use blocks::{BLOCK_BYTES, BLOCK_CODES, read};
+use cells::Answer;
 use reading::inner::read_full;
 use std::io;
 use text::{LONGEST_HEAD, LONGEST_PATH, list_text, refused_text};
@@ -24,17 +25,13 @@ fn page(bytes: &[u8], codes: &mut [u32], text: &mut [u8]) -> usize
     requires { (length bytes.now ≤ longest) × (most_codes ≤ length codes.old) × (longest_text ≤ length text.old) }
     ensures { Page bytes.now text.old result text.new }
 {
-    let found = read(bytes, codes);
-    let answer = found.answer;
-    let number = answer.number;
-    let place = answer.place;
-    if number != 0 {
-        let refused = refused_text(number, place, text);
-        return refused.place as usize;
+    match read(bytes, codes) {
+        Ok(found) => list_text(found.depth, &codes[..found.leaves], text).unwrap(),
+        Err(refusal) => {
+            let answer = Answer::from(refusal);
+            refused_text(answer.number, answer.place, text).unwrap()
+        }
     }
-    let n = place as usize;
-    let listed = list_text(found.depth, &codes[..n], text);
-    listed.place as usize
 }
 
 fn main(rt: HostRuntime) -> io::Result<()> {

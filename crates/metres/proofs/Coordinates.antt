@@ -4,13 +4,11 @@
 --     negated, neg_neg     -d, for a d below zero
 --     not_a_number, is_zero     a NaN is bad, and what is neither above nor below zero, and no NaN, gives 0
 -- Assumes nothing.
-use Rattle.std.proofs.Common.{◌≡◌, ℕ, ◌+◌, ◌*◌, ◌^◌, ◌<◌, ◌≤◌, Bool, true, false, T, ℤ, pos, sym, refl, ◌∙◌, subst, true≢false, mul-le-mul_right, zero-mul, arith, ltb→lt, lt→ltb, pow_mono, ltb-false, ltb-true}
+use Rattle.std.proofs.Common.{◌≡◌, ℕ, ◌+◌, ◌*◌, ◌^◌, ◌<◌, ◌≤◌, Bool, true, false, T, ℤ, pos, refl, true≢false, mul-le-mul_right, zero-mul, arith, ltb→lt, lt→ltb, pow_mono, ltb-false, ltb-true, Some, None}
 use mathlib.Core.Bool.{false≢true}
-use lib.Ieee.{Float, nan, inf, fin, up, down, lt, ne, neg}
+use lib.Ieee.{Float, nan, inf, fin, up, down, lt, is_nan, neg}
 use lib.Ieee.Fits.{down_pos}
-use lib.Ieee.Compare.{differs_from_itself, nan_differs}
 use lib.Ieee.Positive.{positive, num, den, first_pos}
-use Rattle.metres.specs.declared.inner.Coordinate.TheVariants.{Voxels, Bad}
 use Rattle.metres.specs.Metres.{Nearest}
 use Rattle.metres.specs.Inner.{Rounded, Measured, size_of, fitted, with_sign}
 use Rattle.metres.proofs.NearestLaws.{nearest_size}
@@ -42,7 +40,7 @@ unfolding neg
 with_sign_lem true m e = refl
 with_sign_lem false m e = refl
 
-pub beyond : (s : ℕ) (t : Bool) (a : Float) → T (lt nought a) → lt a limit ≡ false → Rounded s (with_sign t a) Bad
+pub beyond : (s : ℕ) (t : Bool) (a : Float) → T (lt nought a) → lt a limit ≡ false → Rounded s (with_sign t a) None
 unfolding lt neg Rounded Nearest
 beyond s t nan p q = absurd p
 beyond s t (inf true) p q = absurd p
@@ -80,9 +78,11 @@ negated (fin false m e) p =
     absurd f
 
 -- ---- neither above nor below zero
-pub not_a_number : (s : ℕ) (d : Float) → ne d d ≡ true → Rounded s d Bad
-unfolding Rounded Nearest
-not_a_number s d p = subst (λ (x : Float). Rounded s x Bad) (sym (differs_from_itself d (subst T (sym p) tt))) (λ n w. w.0)
+pub not_a_number : (s : ℕ) (d : Float) → is_nan d ≡ true → Rounded s d None
+unfolding Rounded Nearest is_nan
+not_a_number s nan p = λ n w. w.0
+not_a_number s (inf t) p = absurd (false≢true p)
+not_a_number s (fin t m e) p = absurd (false≢true p)
 
 zero_rounded : (s : ℕ) (t : Bool) (m : ℕ) (e : ℤ) → m * up e ≡ 0 → Rounded s (fin t m e) (fitted t (size_of 0))
 zero_rounded s t m e z =
@@ -90,9 +90,9 @@ zero_rounded s t m e z =
     let none = zero-mul (down e) in
     rounded_fitted s (fin t m e) t _ (nearest_size s t m e 0 (omega arith) (omega (arith, down_pos e)))
 
-pub is_zero : (s : ℕ) (d : Float) → ne d d ≡ false → lt nought d ≡ false → lt d nought ≡ false → Rounded s d (Voxels (pos 0))
-unfolding lt
-is_zero s nan n p q = absurd (true≢false (sym nan_differs ∙ n))
+pub is_zero : (s : ℕ) (d : Float) → is_nan d ≡ false → lt nought d ≡ false → lt d nought ≡ false → Rounded s d (Some (pos 0))
+unfolding lt is_nan
+is_zero s nan n p q = absurd (true≢false n)
 is_zero s (inf true) n p q = absurd (true≢false q)
 is_zero s (inf false) n p q = absurd (true≢false p)
 is_zero s (fin true m e) n p q =

@@ -2,11 +2,9 @@
 --     one_whole, one_rounded     one whole number at most, one outcome at most
 --     rounded_exists     and an outcome for every float: `rounded`, which computes
 -- Assumes nothing.
-use Rattle.std.proofs.Common.{◌≡◌, ℕ, ◌*◌, ◌^◌, ◌<◌, ◌≤◌, Bool, true, false, cond, not, T, ℤ, pos, negsuc, neg_ℤ, ◌≤ℤ◌, ◌<ℤ◌, refl, ap, subst, arith, ltb→lt, leb→le, nltb→le}
+use Rattle.std.proofs.Common.{◌≡◌, ℕ, ◌*◌, ◌^◌, ◌<◌, ◌≤◌, Bool, true, false, cond, not, T, ℤ, pos, negsuc, neg_ℤ, ◌≤ℤ◌, ◌<ℤ◌, refl, ap, subst, arith, ltb→lt, leb→le, nltb→le, Option, Some, None}
 use lib.Dec.{nleb→lt}
 use lib.Ieee.{Float, nan, inf, fin, up, down}
-use Rattle.metres.specs.declared.inner.Coordinate.{Coordinate}
-use Rattle.metres.specs.declared.inner.Coordinate.TheVariants.{Voxels, Bad}
 use Rattle.metres.specs.Metres.{signed, Nearest, Whole}
 use Rattle.metres.specs.Inner.{Rounded, in_range, fitted}
 use Rattle.cells.proofs.Integers.{above, below, le→, →le, lt→, →lt, above_neg, below_neg}
@@ -39,25 +37,25 @@ pub one_whole : (s : ℕ) (d : Float) (n n' : ℤ) → Whole s d n → Whole s d
 one_whole s d n n' h h' = nearest_unique s d n n' h.0 h'.0
 
 -- and has one outcome
-pub one_rounded : (s : ℕ) (d : Float) (w w' : Coordinate) → Rounded s d w → Rounded s d w' → w ≡ w'
+pub one_rounded : (s : ℕ) (d : Float) (w w' : Option ℤ) → Rounded s d w → Rounded s d w' → w ≡ w'
 unfolding Rounded
-one_rounded s d (Voxels n) (Voxels n') h h' = ap Voxels (one_whole s d n n' h h')
-one_rounded s d (Voxels n) Bad h h' = absurd (h' n h)
-one_rounded s d Bad (Voxels n') h h' = absurd (h n' h')
-one_rounded s d Bad Bad h h' = refl
+one_rounded s d (Some n) (Some n') h h' = ap Some (one_whole s d n n' h h')
+one_rounded s d (Some n) None h h' = absurd (h' n h)
+one_rounded s d None (Some n') h h' = absurd (h n' h')
+one_rounded s d None None h h' = refl
 
 pub rounded_fitted : (s : ℕ) (d : Float) (t : Bool) (k : ℕ) → Nearest s d (signed t k) → Rounded s d (fitted t k)
 unfolding Rounded
 rounded_fitted s d t k h = go (in_range t k) (in32_yes t k) (in32_no t k)
   where
-    go : (b : Bool) → (T b → In32 (signed t k)) → (T (not b) → In32 (signed t k) → ⊥) → Rounded s d (cond b (Voxels (signed t k)) Bad)
+    go : (b : Bool) → (T b → In32 (signed t k)) → (T (not b) → In32 (signed t k) → ⊥) → Rounded s d (cond b (Some (signed t k)) None)
     go true f g = (h, (f tt).0, (f tt).1)
     go false f g = λ n w. g tt (subst In32 (nearest_unique s d n (signed t k) w.0 h) (w.1, w.2))
 
 -- the outcome for every float, computed
-unfoldable pub rounded : ℕ → Float → Coordinate
-rounded s nan = Bad
-rounded s (inf t) = Bad
+unfoldable pub rounded : ℕ → Float → Option ℤ
+rounded s nan = None
+rounded s (inf t) = None
 rounded s (fin t m e) = fitted t (size_at s m e)
 
 pub rounded_exists : (s : ℕ) (d : Float) → Rounded s d (rounded s d)
@@ -66,7 +64,7 @@ rounded_exists s nan = λ n w. w.0
 rounded_exists s (inf t) = λ n w. w.0
 rounded_exists s (fin t m e) = rounded_fitted s (fin t m e) t (size_at s m e) (nearest_exists s t m e)
 
-pub far_is_bad : (s : ℕ) (t : Bool) (m : ℕ) (e : ℤ) → 2 ^ 32 * down e ≤ m * up e → Rounded s (fin t m e) Bad
+pub far_is_bad : (s : ℕ) (t : Bool) (m : ℕ) (e : ℤ) → 2 ^ 32 * down e ≤ m * up e → Rounded s (fin t m e) None
 unfolding Rounded
 far_is_bad s t m e h = λ n w.
     let (k, big, is) = nearest_far s t m e n h w.0 in

@@ -1,11 +1,12 @@
--- The laws of `TakenOf`, what a move in metres becomes.
---     together_taken     three coordinates' outcomes, put together, are the move's
+-- The laws of `TakenOf`, what a move becomes.
+--     together_taken     three coordinates' outcomes, put together, are those of the metres
+--     edge_taken, voxels_taken     an edge number above the greatest, and whole voxels
 --     one_move_tests, move_tests_five, move_tests_numbered     each test of a move refuses with one answer at most, whose number is 5
 --     one_becomes, one_taken     no second outcome fits a move
 --     bad_decides, whole_decides     how the outcome decides the same tests in a call above
 -- Assumes nothing.
-use Rattle.std.proofs.Common.{◌≡◌, ℕ, ◌<◌, ◌≤◌, ◌⊎◌, List, [], ◌∷◌, ℤ, sym, refl, ap, ◌∙◌, inl, inr, arith, below_none, below_more}
-use Rattle.cells.specs.Answer.{answer, Test, Decided}
+use Rattle.std.proofs.Common.{◌≡◌, ℕ, zero, suc, ◌<◌, ◌≤◌, ◌⊎◌, List, [], ◌∷◌, ℤ, sym, refl, ap, ◌∙◌, inl, inr, arith, below_none, below_more, Option, Some, None, Result, Ok, Err}
+use Rattle.cells.specs.Answer.{Test, Decided}
 use Rattle.cells.specs.declared.Answer.{Answer}
 use Rattle.cells.specs.Place.{axes, EachAxis}
 use Rattle.cells.proofs.Decisions.{One, Ones, Telling, Numbered, one_decided, one_refuses, one_refuses_first, passes, refuses_numbered, refuses_first_numbered}
@@ -13,12 +14,12 @@ use Rattle.cells.proofs.Places.{each_axis}
 use Rattle.metres.specs.declared.Metres.{Metres}
 use Rattle.metres.specs.declared.Move.{Move}
 use Rattle.metres.specs.declared.Move.TheVariants as MoveV
-use Rattle.metres.specs.declared.inner.Coordinate.{Coordinate}
-use Rattle.metres.specs.declared.inner.Coordinate.TheVariants.{Voxels, Bad}
-use Rattle.metres.specs.declared.inner.Taken.{Taken}
-use Rattle.metres.specs.declared.inner.Taken.TheVariants as TakenV
+use Rattle.metres.specs.declared.inner.Steps.{Steps}
+use Rattle.cells.specs.declared.refusals.NoWholeMove.{NoWholeMove}
+use Rattle.cells.specs.declared.refusals.NoWholeMove.TheVariants.{X, Y, Z, EdgeNumber}
 use Rattle.metres.specs.Metres.{Whole, finest, coordinates, move_tests, Becomes}
-use Rattle.metres.specs.Taken.{outcome, TakenOf}
+use Rattle.cells.specs.Refusals.{no_move_place}
+use Rattle.metres.specs.Taken.{told, outcome, TakenOf}
 use Rattle.metres.specs.Inner.{Rounded, together}
 use Rattle.metres.proofs.Rounding.{one_whole}
 
@@ -30,17 +31,23 @@ module _ (m : Metres) (low : m.s ≤ finest) where
   Good a = (n : ℤ) × Whole m.s (coordinates m a) n
 
   -- the first bad coordinate, where those before it are good
-  first_bad : (a : ℕ) → a < 3 → ((n : ℤ) → Whole m.s (coordinates m a) n → ⊥) → ((b : ℕ) → b < a → Good b) → TakenOf m (TakenV.Bad a)
-  first_bad a h none good = inr (passes (λ h. omega arith), inl (_, (a, record { below = h; here = none; before = λ b l bad. bad (good b l).0 (good b l).1 }, refl), refl))
+  first_bad : (e : NoWholeMove) → no_move_place e < 3 → ((n : ℤ) → Whole m.s (coordinates m (no_move_place e)) n → ⊥) → ((b : ℕ) → b < no_move_place e → Good b) → TakenOf (MoveV.Metres m) (Err e)
+  first_bad e h none good = inr (passes (λ h. omega arith), inl (_, (no_move_place e, record { below = h; here = none; before = λ b l bad. bad (good b l).0 (good b l).1 }, refl), refl))
 
-  pub together_taken : (a b c : Coordinate) → Rounded m.s m.x a → Rounded m.s m.y b → Rounded m.s m.z c → TakenOf m (together a b c)
+  pub together_taken : (a b c : Option ℤ) → Rounded m.s m.x a → Rounded m.s m.y b → Rounded m.s m.z c → TakenOf (MoveV.Metres m) (together a b c)
   unfolding Rounded
-  together_taken Bad b c x y z = first_bad 0 (omega arith) x (below_none Good)
-  together_taken (Voxels i) Bad c x y z = first_bad 1 (omega arith) y (below_more Good 0 (below_none Good) (i, x))
-  together_taken (Voxels i) (Voxels j) Bad x y z = first_bad 2 (omega arith) z (below_more Good 1 (below_more Good 0 (below_none Good) (i, x)) (j, y))
-  together_taken (Voxels i) (Voxels j) (Voxels k) x y z =
+  together_taken None b c x y z = first_bad X (omega arith) x (below_none Good)
+  together_taken (Some i) None c x y z = first_bad Y (omega arith) y (below_more Good 0 (below_none Good) (i, x))
+  together_taken (Some i) (Some j) None x y z = first_bad Z (omega arith) z (below_more Good 1 (below_more Good 0 (below_none Good) (i, x)) (j, y))
+  together_taken (Some i) (Some j) (Some k) x y z =
       let all : EachAxis (λ a. Whole m.s (coordinates m a) (axes i j k a)) = each_axis _ x y z in
       inr (passes (λ h. omega arith), inr (λ a (b, f, e). f.here (axes i j k b) (all b f.below), (i, j, k, all, refl)))
+
+pub edge_taken : (m : Metres) → finest < m.s → TakenOf (MoveV.Metres m) (Err EdgeNumber)
+edge_taken m high = inl (_, (high, refl), refl)
+
+pub voxels_taken : (i j k : ℤ) → TakenOf (MoveV.Voxels i j k) (Ok (record { x = i; y = j; z = k }))
+voxels_taken i j k = (i, j, k, each_axis _ refl refl refl, refl)
 
 -- ---- a move's own tests
 
@@ -70,24 +77,37 @@ one_row m r s (i, j, k, b, e) (i', j', k', b', e') =
     let same = one_becomes m (axes i j k) (axes i' j' k') b b' in
     e ∙ rw (same 0 (omega arith), same 1 (omega arith), same 2 (omega arith)) (sym e')
 
-one_outcome : (d : Metres) → One (Decided inl (move_tests (MoveV.Metres d)) (Voxelled (MoveV.Metres d)))
-one_outcome d = one_decided inl (move_tests (MoveV.Metres d)) (Voxelled (MoveV.Metres d)) (one_move_tests (MoveV.Metres d)) (one_row (MoveV.Metres d))
+one_outcome : (m : Move) → One (Decided inl (move_tests m) (Voxelled m))
+one_outcome m = one_decided inl (move_tests m) (Voxelled m) (one_move_tests m) (one_row m)
 
 same_three : (i j k i' j' k' : ℤ) → ◌≡◌ {A = Answer ⊎ (ℤ × ℤ × ℤ)} (inr (i, j, k)) (inr (i', j', k')) → (i ≡ i') × (j ≡ j') × (k ≡ k')
 same_three i j k i' j' k' e =
     let t : ◌≡◌ {A = ℤ × ℤ × ℤ} (i, j, k) (i', j', k') = cc in
     (ap (λ (v : ℤ × ℤ × ℤ). v.0) t, ap (λ (v : ℤ × ℤ × ℤ). v.1) t, ap (λ (v : ℤ × ℤ × ℤ). v.2) t)
 
-one_told : (t t' : Taken) → outcome t ≡ outcome t' → t ≡ t'
-one_told (TakenV.Bad p) (TakenV.Bad q) e = let f : answer 5 p 0 ≡ answer 5 q 0 = cc in ap (λ (a : Answer). TakenV.Bad a.place) f
-one_told (TakenV.Bad p) (TakenV.Voxels i j k) e = let z : ◌≡◌ {A = ℕ} 0 1 = cc in absurd (omega arith)
-one_told (TakenV.Voxels i j k) (TakenV.Bad q) e = let z : ◌≡◌ {A = ℕ} 0 1 = cc in absurd (omega arith)
-one_told (TakenV.Voxels i j k) (TakenV.Voxels i' j' k') e =
-    let (x, y, z) = same_three i j k i' j' k' e in
+-- what is not whole is known by its place
+abbrev named : ℕ → NoWholeMove
+named zero = X
+named (suc zero) = Y
+named (suc (suc zero)) = Z
+named (suc (suc (suc n))) = EdgeNumber
+
+named_place : (e : NoWholeMove) → named (no_move_place e) ≡ e
+named_place X = refl
+named_place Y = refl
+named_place Z = refl
+named_place EdgeNumber = refl
+
+one_told : (t t' : Result Steps NoWholeMove) → outcome t ≡ outcome t' → t ≡ t'
+one_told (Err p) (Err q) e = let f : told p ≡ told q = cc in ap Err (sym (named_place p) ∙ ap (λ (a : Answer). named a.place) f ∙ named_place q)
+one_told (Err p) (Ok v) e = let z : ◌≡◌ {A = ℕ} 0 1 = cc in absurd (omega arith)
+one_told (Ok v) (Err q) e = let z : ◌≡◌ {A = ℕ} 0 1 = cc in absurd (omega arith)
+one_told (Ok v) (Ok w) e =
+    let (x, y, z) = same_three v.x v.y v.z w.x w.y w.z e in
     rw (x, y, z)
 
-pub one_taken : (d : Metres) → One (TakenOf d)
-one_taken d t t' h h' = one_told t t' (one_outcome d (outcome t) (outcome t') h h')
+pub one_taken : (m : Move) → One (TakenOf m)
+one_taken m t t' h h' = one_told t t' (one_outcome m (outcome t) (outcome t') h h')
 
 -- ---- the same tests in a call above, which leaves `refuse a` where one refuses with a
 
@@ -97,18 +117,17 @@ module _ (W R : Type 0) (refuse : Answer → R) (Q : Answer ⊎ W → Type 0) (P
   row (F ∷ Fs) x r refused f (inl (b, g, e)) = inl (b, g, refused b e)
   row (F ∷ Fs) x r refused f (inr (n, d)) = inr (n, row Fs x r refused f d)
 
-module _ {R : Type 0} (refuse : Answer → R) (P : R → Type 0) (d : Metres) where
-  decides : (x : Answer ⊎ (ℤ × ℤ × ℤ)) (r : R) → ((a : Answer) → x ≡ inl a → r ≡ refuse a) → (Voxelled (MoveV.Metres d) x → P r) → Decided inl (move_tests (MoveV.Metres d)) (Voxelled (MoveV.Metres d)) x
-      → Decided refuse (move_tests (MoveV.Metres d)) P r
-  decides = row (ℤ × ℤ × ℤ) R refuse (Voxelled (MoveV.Metres d)) P (move_tests (MoveV.Metres d))
+module _ {R : Type 0} (refuse : Answer → R) (P : R → Type 0) (m : Move) where
+  decides : (x : Answer ⊎ (ℤ × ℤ × ℤ)) (r : R) → ((a : Answer) → x ≡ inl a → r ≡ refuse a) → (Voxelled m x → P r) → Decided inl (move_tests m) (Voxelled m) x → Decided refuse (move_tests m) P r
+  decides = row (ℤ × ℤ × ℤ) R refuse (Voxelled m) P (move_tests m)
 
-  pub bad_decides : (p : ℕ) → TakenOf d (TakenV.Bad p) → Decided refuse (move_tests (MoveV.Metres d)) P (refuse (answer 5 p 0))
-  bad_decides p = decides (inl (answer 5 p 0)) _ (λ a e. let same : answer 5 p 0 ≡ a = cc in ap refuse same) (λ q. absurd (let e = q.4 in let z : ◌≡◌ {A = ℕ} 0 1 = cc in omega arith))
+  pub bad_decides : (e : NoWholeMove) → TakenOf m (Err e) → Decided refuse (move_tests m) P (refuse (told e))
+  bad_decides e = decides (inl (told e)) _ (λ a f. let same : told e ≡ a = cc in ap refuse same) (λ q. absurd (let e = q.4 in let z : ◌≡◌ {A = ℕ} 0 1 = cc in omega arith))
 
-  pub whole_decides : (i j k : ℤ) (r : R) → TakenOf d (TakenV.Voxels i j k) → (Becomes (MoveV.Metres d) (axes i j k) → P r) → Decided refuse (move_tests (MoveV.Metres d)) P r
-  whole_decides i j k r h f = decides (inr (i, j, k)) r (λ a e. absurd (let z : ◌≡◌ {A = ℕ} 0 1 = cc in omega arith)) same h
+  pub whole_decides : (v : Steps) (r : R) → TakenOf m (Ok v) → (Becomes m (axes v.x v.y v.z) → P r) → Decided refuse (move_tests m) P r
+  whole_decides v r h f = decides (inr (v.x, v.y, v.z)) r (λ a e. absurd (let z : ◌≡◌ {A = ℕ} 0 1 = cc in omega arith)) same h
     where
-      same : Voxelled (MoveV.Metres d) (inr (i, j, k)) → P r
-      same (i', j', k', b, e) =
-          let (x, y, z) = same_three i j k i' j' k' e in
+      same : Voxelled m (inr (v.x, v.y, v.z)) → P r
+      same (i, j, k, b, e) =
+          let (x, y, z) = same_three v.x v.y v.z i j k e in
           f (rw (← x, ← y, ← z) at b)

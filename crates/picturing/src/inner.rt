@@ -1,5 +1,4 @@
 // INNER: for the program `examples`.
-mod bytes;
 pub mod on_bits;
 mod on_conversions;
 mod on_lookups;

@@ -1,4 +1,4 @@
-// The examples of bits, the plain engine of ticket 5: a part of the program `examples`. Its words are those of `printing`, and the bytes of a buffer.
+// The examples of bits, of the plain engine: a part of the program `examples`. What a line shows is that of `printing`.
 #![tactic(auto)]
 
 pub mod inner;

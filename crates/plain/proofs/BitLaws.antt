@@ -8,7 +8,7 @@ use native.Mathlib.Omega.{arith}
 use lib.ListN.{length, get_or, take, drop, length-set, length-drop, take-append-drop, get_or-eq_default}
 use lib.Pow.{pow_mono}
 use lib.Seq.{length-take-le, get_or-set_same, get_or-set_other, get_or-take, get_or-drop, ext_get_or}
-use Rattle.cells.proofs.Power.{le_or_lt, pow8_pos, pow8_suc, pow8_pred}
+use Rattle.cells.proofs.Power.{le_or_lt, pow8_pos, pow8_suc}
 use Rattle.records.specs.Count.{bit}
 use Rattle.records.specs.Writing.{stands}
 use Rattle.plain.specs.Bits.{bytes_for, bit_at, BitsOf}
@@ -26,15 +26,6 @@ pub bytes_needed : (D : ℕ) → 8 * bytes_for D < 8 ^ D + 8
 unfolding bytes_for
 bytes_needed zero = omega arith
 bytes_needed (suc D) = omega (arith, pow8_suc D, pow8_pos D)
-
--- one at depth 0, and an eighth of the voxels at every other
-pub bytes_none : (D : ℕ) → D ≡ 0 → 1 ≡ bytes_for D
-unfolding bytes_for
-bytes_none D e = rw e refl
-
-pub bytes_some : (D : ℕ) → (D ≡ 0 → ⊥) → 8 ^ D / 8 ≡ bytes_for D
-unfolding bytes_for
-bytes_some D some = omega (arith, pow8_pred D (omega arith), pow8_pos (D - 1))
 
 -- ---- bits
 
@@ -133,15 +124,6 @@ pub record Progress (P : ℕ → Type 0) (v : ℕ) (o out : List ℕ) : Type 0 w
   pub clear : (u : ℕ) → v ≤ u → u / 8 * 8 < v → bit_at out u ≡ 0
   pub bytes : (i : ℕ) → 8 * i < v → get_or out i 0 < 256
   pub rest : (i : ℕ) → v ≤ 8 * i → get_or out i 0 ≡ get_or o i 0
-
-pub progress_none : (P : ℕ → Type 0) (o : List ℕ) → Progress P 0 o o
-progress_none P o = record {
-  size = refl;
-  done = λ u h. absurd (omega arith);
-  clear = λ u h l. absurd (omega arith);
-  bytes = λ i h. absurd (omega arith);
-  rest = λ i h. refl;
-}
 
 pub progress_more : {P : ℕ → Type 0} {v : ℕ} {o out out' : List ℕ} (c : Bool) → Progress P v o out → v < 8 * length out → out' ≡ marked out v c → (c ≡ true) ↔ P v → Progress P (v + 1) o out'
 progress_more {P} {v} {o} {out} {out'} c x room is colour =

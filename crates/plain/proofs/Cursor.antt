@@ -13,18 +13,10 @@ use Rattle.records.specs.Inner.{Starts}
 use Rattle.records.proofs.Fault.{in_order}
 use Rattle.records.proofs.Part.{starts_rise}
 
--- none before the first voxel
-pub starts_none : (D : ℕ) (l : List ℕ) → Starts D l 0 0 (length l) 0
-starts_none D l = record { low = zero-le; high = zero-le; below = λ i _ h. absurd (omega arith); above = λ i _ h. zero-le }
-
 module _ (D : ℕ) (l : List ℕ) (o : Ordered D 0 l) (v at : ℕ) (s : Starts D l v 0 (length l) at) where
   -- those before stay before
   before : (i : ℕ) → 0 ≤ i → i < at → start D (get_or l i 0) < v + 1
   before i a h = omega (arith, s.below i a h)
-
-  -- no leaf is left
-  pub started_none : length l ≤ at → Starts D l (v + 1) 0 (length l) at
-  started_none h = record { low = zero-le; high = s.high; below = before; above = λ i a b. absurd (omega arith) }
 
   -- the next one starts later
   pub started_later : v < start D (get_or l at 0) → Starts D l (v + 1) 0 (length l) at

@@ -22,9 +22,8 @@ use Rattle.records.specs.Carried.{FromBlack}
 use Rattle.records.specs.Count.{bit}
 use Rattle.records.specs.Fault.{all_from}
 use Rattle.records.specs.Gap.{Free}
-use Rattle.records.specs.Lookups.{unseen, seen}
+use Rattle.records.specs.Lookups.{LookupAnswer, unseen, seen}
 use Rattle.records.specs.Writing.{stands}
-use Rattle.records.specs.declared.lookups.Finding.{Finding}
 use Rattle.records.proofs.Fill.{all_true, upto, leaves, good_list, is_good}
 use Rattle.records.proofs.First.{good_passes}
 use Rattle.records.proofs.OneList.{good_list_lem}
@@ -38,7 +37,7 @@ use Rattle.metres.specs.declared.Move.TheVariants.{Voxels}
 use Rattle.plain.specs.Bits.{bytes_for, bit_at, black_in, BitsOf}
 use Rattle.plain.specs.Calls.{deepest_plain, ToBitsOf, ToListOf, SetBitsOf, Leaves, MoveBitsOf, LookupBitsOf}
 use Rattle.plain.proofs.BitLaws.{bytes_enough, bit_black, front_bits}
-use Rattle.plain.proofs.Voxels.{black_in_lem, comes_to_of, comes_to, moved_exactly}
+use Rattle.plain.proofs.Voxels.{black_in_lem, comes_to_of, comes_to, colour_from, moved_exactly}
 use Rattle.plain.proofs.PlainLaws.{one_to_bits, one_to_list, one_set_bits, one_move_bits, one_lookup_bits}
 
 -- ---- bits computed: Q is the voxels' colours
@@ -207,7 +206,7 @@ one_x = axes (pos 1) (pos 0) (pos 0)
 
 moved_r0 : BitsOf 1 (FromBlack (Came 1 one_x) (black_in 1 (1 ∷ []))) (2 ∷ [])
 unfolding along number all_from right bytes_for bit_at black_in comes_to_of
-moved_r0 = bits_computed 1 (λ v. black_in 1 (1 ∷ []) (comes_to_of 1 (λ a. neg_ℤ (one_x a)) v)) _ (moved_exactly 1 one_x (1 ∷ [])) (2 ∷ []) refl
+moved_r0 = bits_computed 1 (λ v. colour_from 1 (1 ∷ []) (comes_to_of 1 (λ a. neg_ℤ (one_x a)) v)) _ (moved_exactly 1 one_x (1 ∷ [])) (2 ∷ []) refl
 
 -- r0 stays, and no other voxel is black
 white_rest : (u : ℕ) → 1 ≤ u → u < 8 → bit_at (1 ∷ []) u ≡ 0
@@ -216,7 +215,7 @@ white_rest u h k = eqb-true (bit_at (1 ∷ []) u) 0 (all_true (λ v. eqb (bit_at
 
 stays_r0 : (u : ℕ) → u < 8 → Leaves (Came 1 one_x) (black_in 1 (1 ∷ [])) u → ⊥
 unfolding along number bit_at black_in comes_to_of
-stays_r0 zero h (dark, none) = none 1 ((comes_to 1 one_x 0).stays (omega arith))
+stays_r0 zero h (dark, none) = none 1 (comes_to 1 one_x 0)
 stays_r0 (suc u) h (dark, none) = let e : ◌≡◌ {A = ℕ} 1 0 = sym ((black_in_lem 1 (1 ∷ []) (suc u)).0 dark).1 ∙ white_rest (suc u) (omega arith) h in omega arith
 
 pub move_bits_holds : MoveBitsOf 1 (1 ∷ []) (Voxels (pos 1) (pos 0) (pos 0)) (0 ∷ 7 ∷ []) (given 1) (2 ∷ 7 ∷ [])
@@ -240,7 +239,7 @@ move_bits_fails h = let e : ◌≡◌ {A = ℕ} 16 2 = ap front_byte (one_move_b
 -- the voxel 1 is the first that leaves
 leaves_r1 : Leaves (Came 1 one_x) (black_in 1 (6 ∷ [])) 1
 unfolding along number bit_at black_in comes_to_of
-leaves_r1 = (refl, (comes_to 1 one_x 1).leaves (omega arith))
+leaves_r1 = (refl, comes_to 1 one_x 1)
 
 white_r0 : (j : ℕ) → j < 1 → Leaves (Came 1 one_x) (black_in 1 (6 ∷ [])) j → ⊥
 unfolding bit_at black_in
@@ -282,11 +281,11 @@ lookup_bits_holds =
     inr (passes (deep_enough (omega arith)), inr (passes (λ out. clash refl out), inr (passes (λ short. omega arith), (1, free_largest 1 (black_in 1 (9 ∷ [])) 3 0 (lit< tt) r3_free, refl))))
 
 pub lookup_bits_fails : (k : ℕ) → LookupBitsOf 1 (9 ∷ []) 1 1 0 (seen false k) → ⊥
-lookup_bits_fails k h = let e : ◌≡◌ {A = ℕ} 0 1 = ap (λ (r : Finding). r.answer.place) (one_lookup_bits 1 (9 ∷ []) 1 1 0 _ _ h lookup_bits_holds) in omega arith
+lookup_bits_fails k h = let e : ◌≡◌ {A = ℕ} 0 1 = ap (λ (r : LookupAnswer). r.answer.place) (one_lookup_bits 1 (9 ∷ []) 1 1 0 _ _ h lookup_bits_holds) in omega arith
 
 -- the level of the root does not fit either
 pub lookup_bits_level_fails : LookupBitsOf 1 (9 ∷ []) 1 1 0 (seen true 0) → ⊥
-lookup_bits_level_fails h = let e : ◌≡◌ {A = ℕ} 0 1 = ap (λ (r : Finding). r.level) (one_lookup_bits 1 (9 ∷ []) 1 1 0 _ _ h lookup_bits_holds) in omega arith
+lookup_bits_level_fails h = let e : ◌≡◌ {A = ℕ} 0 1 = ap (λ (r : LookupAnswer). r.level) (one_lookup_bits 1 (9 ∷ []) 1 1 0 _ _ h lookup_bits_holds) in omega arith
 
 -- outside the root, before the bits are looked at
 pub lookup_bits_refuses : (b : List ℕ) → LookupBitsOf 1 b 2 0 0 (unseen (answer 6 0 0))

@@ -37,10 +37,7 @@ use Rattle.plain.proofs.Voxels.{black_in_lem}
 -- ---- the answers worked out: n is the bytes needed
 
 module _ (D : ℕ) (n : ℕ) (is : n ≡ bytes_for D) where
-  -- a buffer that is too short, and one that is not
-  pub bits_short : (b : List ℕ) {r : Answer} → length b < n → r ≡ answer 8 n 0 → BitsShort D b r
-  bits_short b h e = (omega arith, e ∙ ap (λ (k : ℕ). answer 8 k 0) is)
-
+  -- a buffer that is long enough
   pub bits_long : (b : List ℕ) → n ≤ length b → (a : Answer) → BitsShort D b a → ⊥
   bits_long b h = passes (λ short. omega arith)
 

@@ -6,8 +6,7 @@ use Rattle.cells.specs.Place.{axes, number, Came}
 use Rattle.cells.specs.declared.Answer.{Answer}
 use Rattle.records.specs.Record.{black}
 use Rattle.records.specs.Fault.{Faulty}
-use Rattle.records.specs.Lookups.{NoVoxel, unseen, SeenIn}
-use Rattle.records.specs.declared.lookups.Finding.{Finding}
+use Rattle.records.specs.Lookups.{LookupAnswer, NoVoxel, unseen, SeenIn}
 use Rattle.records.specs.Carried.{FromBlack}
 use Rattle.records.specs.Writing.{stands, TooShort, WritesListOf}
 use Rattle.sets.specs.Sets.{Chosen}
@@ -62,5 +61,5 @@ abbrev pub MoveBitsOf : ℕ → List ℕ → Move → List ℕ → Answer → Li
 MoveBitsOf D b m o r o' = Decided (keeping o) (TooDeep deepest_plain D ∷ move_tests m) (ByVoxels m (ShiftBitsOf D b o)) (r, o')
 
 -- THE CALL lookup_bits, of the voxel x, y, z in the bits b: what the lookup in a list tells
-abbrev pub LookupBitsOf : ℕ → List ℕ → ℕ → ℕ → ℕ → Finding → Type 0
+abbrev pub LookupBitsOf : ℕ → List ℕ → ℕ → ℕ → ℕ → LookupAnswer → Type 0
 LookupBitsOf D b x y z = Decided unseen (TooDeep deepest_plain D ∷ NoVoxel D (axes x y z) ∷ BitsShort D b ∷ []) (SeenIn D (black_in D b) (number D x y z))

@@ -1,7 +1,7 @@
 -- What a probe leaves in its answer buffer. Definitions only.
 use Rattle.std.specs.Prelude.{◌≡◌, ◌⊎◌, List, ◌∷◌, ◌++◌, ℕ, ◌-◌, ◌<◌, ◌≤◌, min, length, replicate, take, drop, Float}
 use Rattle.cells.specs.declared.Answer.{Answer}
-use Rattle.records.specs.declared.lookups.Finding.{Finding}
+use Rattle.records.specs.Lookups.{LookupAnswer}
 use Rattle.metres.specs.declared.Metres.{Metres}
 
 -- the buffer o afterwards: number, place, list, the four numbers beside the place, and 0 in the rest
@@ -21,8 +21,8 @@ abbrev pub Writes : List ℕ → List ℕ → List ℕ → List ℕ → (Answer 
 Writes o o' p p' F = Probed o ((o' ≡ o) × (p' ≡ p)) ((a : Answer) × F a p' × (o' ≡ told o a 0 0 0 0))
 
 -- a voxel's finding that fits F is told: its answer, with the level last beside the place
-abbrev pub Finds : List ℕ → List ℕ → (Finding → Type 0) → Type 0
-Finds o o' F = Probed o (o' ≡ o) ((r : Finding) × F r × (o' ≡ told o r.answer 0 0 0 r.level))
+abbrev pub Finds : List ℕ → List ℕ → (LookupAnswer → Type 0) → Type 0
+Finds o o' F = Probed o (o' ≡ o) ((r : LookupAnswer) × F r × (o' ≡ told o r.answer 0 0 0 r.level))
 
 -- the codes l at the front of the buffer o, as many as fit
 abbrev pub copied : List ℕ → List ℕ → List ℕ

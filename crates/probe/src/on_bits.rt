@@ -5,8 +5,10 @@ ghost use Rattle.plain.specs.Calls.{ToBitsOf, ToListOf, SetBitsOf, MoveBitsOf, L
 ghost use Rattle.probe.specs.Probe.{Finds, Writes, metres_of};
 
 use crate::inner::tell;
+use cells::Answer;
 use metres::{Metres, Move};
 use plain::{intersect_bits, join_bits, lookup_bits, move_bits, subtract_bits, to_bits, to_list};
+use records::inner::findings;
 
 #[unsafe(no_mangle)]
 pub extern "C" fn probe_bits_from(depth: u32, list: &[u32], bits: &mut [u8], answer: &mut [u64])
@@ -17,7 +19,7 @@ pub extern "C" fn probe_bits_from(depth: u32, list: &[u32], bits: &mut [u8], ans
         return;
     }
     let r = to_bits(depth, list, bits);
-    tell(answer, r, 0, 0, 0, 0);
+    tell(answer, Answer::from(r), 0, 0, 0, 0);
 }
 
 #[unsafe(no_mangle)]
@@ -29,7 +31,7 @@ pub extern "C" fn probe_bits_to(depth: u32, bits: &[u8], out: &mut [u32], answer
         return;
     }
     let r = to_list(depth, bits, out);
-    tell(answer, r, 0, 0, 0, 0);
+    tell(answer, Answer::from(r), 0, 0, 0, 0);
 }
 
 #[unsafe(no_mangle)]
@@ -49,7 +51,7 @@ pub extern "C" fn probe_bits_move(
         return;
     }
     let r = move_bits(depth, bits, Move::Voxels(dx, dy, dz), out);
-    tell(answer, r, 0, 0, 0, 0);
+    tell(answer, Answer::from(r), 0, 0, 0, 0);
 }
 
 #[unsafe(no_mangle)]
@@ -71,7 +73,7 @@ pub extern "C" fn probe_bits_move_metres(
     }
     let d = Metres { x, y, z, s };
     let r = move_bits(depth, bits, Move::Metres(d), out);
-    tell(answer, r, 0, 0, 0, 0);
+    tell(answer, Answer::from(r), 0, 0, 0, 0);
 }
 
 #[unsafe(no_mangle)]
@@ -89,7 +91,7 @@ pub extern "C" fn probe_bits_join(
         return;
     }
     let r = join_bits(depth, a, b, out);
-    tell(answer, r, 0, 0, 0, 0);
+    tell(answer, Answer::from(r), 0, 0, 0, 0);
 }
 
 #[unsafe(no_mangle)]
@@ -107,7 +109,7 @@ pub extern "C" fn probe_bits_meet(
         return;
     }
     let r = intersect_bits(depth, a, b, out);
-    tell(answer, r, 0, 0, 0, 0);
+    tell(answer, Answer::from(r), 0, 0, 0, 0);
 }
 
 #[unsafe(no_mangle)]
@@ -125,7 +127,7 @@ pub extern "C" fn probe_bits_less(
         return;
     }
     let r = subtract_bits(depth, a, b, out);
-    tell(answer, r, 0, 0, 0, 0);
+    tell(answer, Answer::from(r), 0, 0, 0, 0);
 }
 
 // With the level beside the place.
@@ -143,7 +145,6 @@ pub extern "C" fn probe_bits_lookup(
     if answer.len() < 8 {
         return;
     }
-    let r = lookup_bits(depth, bits, x, y, z);
-    let a = r.answer;
-    tell(answer, a, 0, 0, 0, r.level as u64);
+    let (a, level) = findings::told(lookup_bits(depth, bits, x, y, z));
+    tell(answer, a, 0, 0, 0, level as u64);
 }

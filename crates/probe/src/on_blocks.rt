@@ -1,11 +1,12 @@
 // The calls of the crate blocks.
 ghost use Rattle.std.specs.Prelude.{◌≡◌};
-ghost use Rattle.blocks.specs.Calls.{BlockCheckOf, StoredVolumeOf, ReadOf, WriteOf};
-ghost use Rattle.blocks.specs.declared.Reading.{Reading};
+ghost use Rattle.blocks.specs.Calls.{ReadAnswer, BlockCheckOf, StoredVolumeOf, ReadOf, WriteOf};
 ghost use Rattle.probe.specs.Probe.{told, Probed, Tells, Writes};
 
 use crate::inner::tell;
+use blocks::inner::readings;
 use blocks::{check_blocks, read, stored_volume, write};
+use cells::Answer;
 
 #[unsafe(no_mangle)]
 pub extern "C" fn probe_write(depth: u32, list: &[u32], bytes: &mut [u8], answer: &mut [u64])
@@ -16,22 +17,21 @@ pub extern "C" fn probe_write(depth: u32, list: &[u32], bytes: &mut [u8], answer
         return;
     }
     let r = write(depth, list, bytes);
-    tell(answer, r, 0, 0, 0, 0);
+    tell(answer, Answer::from(r), 0, 0, 0, 0);
 }
 
 // With the depth read beside the place.
 #[unsafe(no_mangle)]
 pub extern "C" fn probe_read(bytes: &[u8], out: &mut [u32], answer: &mut [u64])
     ensures { Probed answer.old ((answer.new ≡ answer.old) × (out.new ≡ out.old))
-        ((r : Reading) × ReadOf bytes.now out.old r out.new
+        ((r : ReadAnswer) × ReadOf bytes.now out.old r out.new
         × (answer.new ≡ told answer.old r.answer r.depth 0 0 0)) }
 {
     if answer.len() < 8 {
         return;
     }
-    let r = read(bytes, out);
-    let a = r.answer;
-    tell(answer, a, r.depth as u64, 0, 0, 0);
+    let (a, depth) = readings::told(read(bytes, out));
+    tell(answer, a, depth as u64, 0, 0, 0);
 }
 
 #[unsafe(no_mangle)]
@@ -41,7 +41,7 @@ pub extern "C" fn probe_block_check(bytes: &[u8], answer: &mut [u64])
     if answer.len() < 8 {
         return;
     }
-    tell(answer, check_blocks(bytes), 0, 0, 0, 0);
+    tell(answer, Answer::from(check_blocks(bytes)), 0, 0, 0, 0);
 }
 
 #[unsafe(no_mangle)]
@@ -51,5 +51,5 @@ pub extern "C" fn probe_stored_volume(bytes: &[u8], answer: &mut [u64])
     if answer.len() < 8 {
         return;
     }
-    tell(answer, stored_volume(bytes), 0, 0, 0, 0);
+    tell(answer, Answer::from(stored_volume(bytes)), 0, 0, 0, 0);
 }

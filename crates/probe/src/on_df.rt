@@ -3,6 +3,7 @@ ghost use Rattle.df.specs.Df.{DfReadOf, DfWriteOf};
 ghost use Rattle.probe.specs.Probe.{Writes};
 
 use crate::inner::tell;
+use cells::Answer;
 use df::{df_read, df_write};
 
 #[unsafe(no_mangle)]
@@ -14,7 +15,7 @@ pub extern "C" fn probe_df_read(depth: u32, text: &[u8], out: &mut [u32], answer
         return;
     }
     let r = df_read(depth, text, out);
-    tell(answer, r, 0, 0, 0, 0);
+    tell(answer, Answer::from(r), 0, 0, 0, 0);
 }
 
 #[unsafe(no_mangle)]
@@ -26,5 +27,5 @@ pub extern "C" fn probe_df_write(depth: u32, list: &[u32], bytes: &mut [u8], ans
         return;
     }
     let r = df_write(depth, list, bytes);
-    tell(answer, r, 0, 0, 0, 0);
+    tell(answer, Answer::from(r), 0, 0, 0, 0);
 }

@@ -4,6 +4,7 @@ ghost use Rattle.moves.specs.Moves.{MoveOf};
 ghost use Rattle.probe.specs.Probe.{Writes, metres_of};
 
 use crate::inner::tell;
+use cells::Answer;
 use metres::{Metres, Move};
 use moves::move_list;
 
@@ -24,7 +25,7 @@ pub extern "C" fn probe_move(
         return;
     }
     let r = move_list(depth, list, Move::Voxels(dx, dy, dz), out);
-    tell(answer, r, 0, 0, 0, 0);
+    tell(answer, Answer::from(r), 0, 0, 0, 0);
 }
 
 #[unsafe(no_mangle)]
@@ -46,5 +47,5 @@ pub extern "C" fn probe_move_metres(
     }
     let d = Metres { x, y, z, s };
     let r = move_list(depth, list, Move::Metres(d), out);
-    tell(answer, r, 0, 0, 0, 0);
+    tell(answer, Answer::from(r), 0, 0, 0, 0);
 }

@@ -8,6 +8,8 @@ ghost use Rattle.cells.specs.Place.{axes};
 ghost use Rattle.probe.specs.Probe.{told, Probed, Tells, Finds, copied};
 
 use crate::inner::tell;
+use cells::Answer;
+use records::inner::findings;
 use records::{check, lookup, met, met_at, volume};
 
 #[unsafe(no_mangle)]
@@ -17,7 +19,7 @@ pub extern "C" fn probe_check(depth: u32, list: &[u32], answer: &mut [u64])
     if answer.len() < 8 {
         return;
     }
-    tell(answer, check(depth, list), 0, 0, 0, 0);
+    tell(answer, Answer::from(check(depth, list)), 0, 0, 0, 0);
 }
 
 #[unsafe(no_mangle)]
@@ -27,7 +29,7 @@ pub extern "C" fn probe_volume(depth: u32, list: &[u32], answer: &mut [u64])
     if answer.len() < 8 {
         return;
     }
-    tell(answer, volume(depth, list), 0, 0, 0, 0);
+    tell(answer, Answer::from(volume(depth, list)), 0, 0, 0, 0);
 }
 
 // With the level beside the place.
@@ -38,23 +40,16 @@ pub extern "C" fn probe_lookup(depth: u32, list: &[u32], x: u32, y: u32, z: u32,
     if answer.len() < 8 {
         return;
     }
-    let r = lookup(depth, list, x, y, z);
-    let a = r.answer;
-    tell(answer, a, 0, 0, 0, r.level as u64);
+    let (a, level) = findings::told(lookup(depth, list, x, y, z));
+    tell(answer, a, 0, 0, 0, level as u64);
 }
 
 // As many codes of `from` as fit, at the front of `to`.
 fn copy(from: &[u32], to: &mut [u32])
     ensures { to.new ≡ copied from.now to.old }
 {
-    let mut i: usize = 0;
-    while i < from.len() {
-        if to.len() <= i {
-            return;
-        }
-        to[i] = from[i];
-        i += 1;
-    }
+    let n = from.len().min(to.len());
+    to[..n].copy_from_slice(&from[..n]);
 }
 
 // The companion's answer, the length of the returned part beside it, and the part's codes in `part`, as many as fit.
@@ -81,5 +76,5 @@ pub extern "C" fn probe_met(
     let n = found.len();
     copy(found, part);
     let a = met_at(depth, list, code, dx, dy, dz);
-    tell(answer, a, n as u64, 0, 0, 0);
+    tell(answer, Answer::from(a), n as u64, 0, 0, 0);
 }

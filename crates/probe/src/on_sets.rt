@@ -4,6 +4,7 @@ ghost use Rattle.sets.specs.declared.Op.TheVariants.{Join, Intersect, Subtract};
 ghost use Rattle.probe.specs.Probe.{Writes};
 
 use crate::inner::tell;
+use cells::Answer;
 use sets::{intersect, join, subtract};
 
 #[unsafe(no_mangle)]
@@ -15,7 +16,7 @@ pub extern "C" fn probe_join(depth: u32, a: &[u32], b: &[u32], out: &mut [u32], 
         return;
     }
     let r = join(depth, a, b, out);
-    tell(answer, r, 0, 0, 0, 0);
+    tell(answer, Answer::from(r), 0, 0, 0, 0);
 }
 
 #[unsafe(no_mangle)]
@@ -27,7 +28,7 @@ pub extern "C" fn probe_meet(depth: u32, a: &[u32], b: &[u32], out: &mut [u32], 
         return;
     }
     let r = intersect(depth, a, b, out);
-    tell(answer, r, 0, 0, 0, 0);
+    tell(answer, Answer::from(r), 0, 0, 0, 0);
 }
 
 #[unsafe(no_mangle)]
@@ -39,5 +40,5 @@ pub extern "C" fn probe_less(depth: u32, a: &[u32], b: &[u32], out: &mut [u32], 
         return;
     }
     let r = subtract(depth, a, b, out);
-    tell(answer, r, 0, 0, 0, 0);
+    tell(answer, Answer::from(r), 0, 0, 0, 0);
 }

@@ -3,6 +3,7 @@ ghost use Rattle.text.specs.Text.{TextOf, RefusedOf};
 ghost use Rattle.probe.specs.Probe.{Writes};
 
 use crate::inner::tell;
+use cells::Answer;
 use text::{list_text, refused_text};
 
 #[unsafe(no_mangle)]
@@ -14,7 +15,7 @@ pub extern "C" fn probe_list_text(depth: u32, list: &[u32], bytes: &mut [u8], an
         return;
     }
     let r = list_text(depth, list, bytes);
-    tell(answer, r, 0, 0, 0, 0);
+    tell(answer, Answer::from(r), 0, 0, 0, 0);
 }
 
 #[unsafe(no_mangle)]
@@ -26,5 +27,5 @@ pub extern "C" fn probe_refused_text(number: u32, place: u64, bytes: &mut [u8], 
         return;
     }
     let r = refused_text(number, place, bytes);
-    tell(answer, r, 0, 0, 0, 0);
+    tell(answer, Answer::from(r), 0, 0, 0, 0);
 }

@@ -3,6 +3,7 @@ ghost use Rattle.turns.specs.Turns.{TurnOf};
 ghost use Rattle.probe.specs.Probe.{Writes};
 
 use crate::inner::tell;
+use cells::Answer;
 use turns::turn_list;
 
 #[unsafe(no_mangle)]
@@ -20,5 +21,5 @@ pub extern "C" fn probe_turn(
         return;
     }
     let r = turn_list(depth, list, turns, out);
-    tell(answer, r, 0, 0, 0, 0);
+    tell(answer, Answer::from(r), 0, 0, 0, 0);
 }

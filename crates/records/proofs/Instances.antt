@@ -27,9 +27,8 @@ use Rattle.records.specs.Record.{black}
 use Rattle.records.specs.Count.{count}
 use Rattle.records.specs.Fault.{all_from, early, eight_at, fault, Faulty}
 use Rattle.records.specs.Calls.{CheckOf, VolumeOf}
-use Rattle.records.specs.Lookups.{Largest, unseen, seen, LookupOf}
+use Rattle.records.specs.Lookups.{LookupAnswer, Largest, unseen, seen, LookupOf}
 use Rattle.records.specs.Gap.{Free}
-use Rattle.records.specs.declared.lookups.Finding.{Finding}
 use Rattle.records.specs.Met.{MetPart, unmet, MeetingOf, MetOf, MetAtOf}
 use Rattle.records.proofs.Lists.{holds_true}
 use Rattle.records.proofs.Leaves.{leaf_of}
@@ -69,7 +68,7 @@ unfolding number level index span start holds black
 lookup_holds = inr (passes (λ h. omega arith), inr (none_faulty, inr (passes (clash refl), (3, r057_largest, refl))))
 
 pub lookup_fails : (k : ℕ) → LookupOf 3 one 3 1 3 (seen false k) → ⊥
-lookup_fails k h = let e : ◌≡◌ {A = ℕ} 0 1 = ap (λ (r : Finding). r.answer.place) (one_lookup 3 one 3 1 3 _ _ h lookup_holds) in omega arith
+lookup_fails k h = let e : ◌≡◌ {A = ℕ} 0 1 = ap (λ (r : LookupAnswer). r.answer.place) (one_lookup 3 one 3 1 3 _ _ h lookup_holds) in omega arith
 
 -- it is the one black voxel
 only_black : (u : ℕ) → black 3 one u ≡ true → u ≡ 47
@@ -93,7 +92,7 @@ unfolding number level index span start holds black
 lookup_white = inr (passes (λ h. omega arith), inr (none_faulty, inr (passes (clash refl), (2, free_largest 3 (black 3 one) 0 1 (lit< tt) r00_free, refl))))
 
 pub lookup_white_fails : (k : ℕ) → (k ≡ 2 → ⊥) → LookupOf 3 one 0 0 0 (seen false k) → ⊥
-lookup_white_fails k other h = other (ap (λ (r : Finding). r.level) (one_lookup 3 one 0 0 0 _ _ h lookup_white))
+lookup_white_fails k other h = other (ap (λ (r : LookupAnswer). r.level) (one_lookup 3 one 0 0 0 _ _ h lookup_white))
 
 -- the empty list: the root
 pub lookup_empty : LookupOf 1 [] 0 0 0 (seen false 0)

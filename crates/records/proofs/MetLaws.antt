@@ -4,6 +4,9 @@ use mathlib.Core.List.{List, [], ◌∷◌}
 use Prim.Native.Nat.{ℕ, ◌+◌, ◌*◌, ◌≤◌, zero-le}
 use lib.IntN.{ℤ}
 use lib.ListN.{length, take, drop}
+use Rattle.std.proofs.Common.{w32, SFits, to_z, of_z}
+use Rattle.cells.specs.Place.{axes}
+use Rattle.cells.proofs.Words.{signed_axes}
 use Rattle.cells.specs.Answer.{given, Test, deepest, TooDeep}
 use Rattle.cells.specs.Corners.{NoCell}
 use Rattle.cells.specs.Neighbour.{NoDirection, Neighbour, Outside}
@@ -11,9 +14,13 @@ use Rattle.cells.specs.declared.Answer.{Answer}
 use Rattle.cells.proofs.Decisions.{One, one_refuses, one_refuses_first, one_decided, decided_all}
 use Rattle.cells.proofs.NeighbourLaws.{one_neighbour}
 use Rattle.records.specs.Fault.{Faulty}
-use Rattle.records.specs.Met.{MetPart, unmet, MeetingOf, MetOf, MetAtOf}
-use Rattle.records.specs.declared.meetings.Meeting.{Meeting}
+use Rattle.records.specs.Met.{MetPart, Meeting, unmet, MeetingOf, MetOf, MetAtOf}
 use Rattle.records.proofs.Part.{one_part}
+
+-- a search reads the direction back from the bits
+pub directed : (D : ℕ) (l : List ℕ) (c : ℕ) (x y z : ℤ) → SFits w32 x → SFits w32 y → SFits w32 z → (m : Meeting)
+    → MeetingOf D l c (axes (to_z w32 (of_z w32 x)) (to_z w32 (of_z w32 y)) (to_z w32 (of_z w32 z))) m → MeetingOf D l c (axes x y z) m
+directed D l c x y z fx fy fz m = signed_axes (λ d. MeetingOf D l c d m) x y z fx fy fz
 
 module _ (D : ℕ) (l : List ℕ) (c : ℕ) (d : ℕ → ℤ) where
   abbrev tests : List Test

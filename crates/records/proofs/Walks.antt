@@ -1,7 +1,7 @@
 -- The walk along a list finds its first fault. Assumes nothing.
 use mathlib.Core.Path.{◌≡◌, refl, sym, ap, ◌∙◌}
 use mathlib.Core.Bool.{true, false}
-use mathlib.Core.Logic.{◌⊎◌, ⊎_elim}
+use mathlib.Core.Logic.{⊎_elim}
 use mathlib.Core.List.{List, [], ◌∷◌}
 use Prim.Native.Nat.{ℕ, zero, suc, ◌+◌, ◌≤◌, ◌<◌, zero-le}
 use native.Mathlib.Nat.{eq-or-lt_of_le, le_of_suc-le-suc}
@@ -12,12 +12,14 @@ use lib.ListN.{length, get_or}
 use borrow.Author.Tests.{lt-ltb, le-ltb, ne_eqb}
 use Rattle.cells.specs.Answer.{answer}
 use Rattle.cells.specs.declared.Answer.{Answer}
-use Rattle.cells.proofs.Firsts.{first_more}
 use Rattle.cells.specs.Cell.{proper, start, span, end}
 use Rattle.records.specs.Record.{Good}
 use Rattle.records.specs.Fault.{early, fault, Faulty}
 use Rattle.records.specs.Inner.{volume}
-use Rattle.records.specs.Walk.{last_of, past_of, voxels, next_run, run_of, Faultless, Walked}
+use Rattle.records.specs.Walk.{last_of, past_of, voxels, next_run, run_of, Faultless, Stopped}
+use Rattle.cells.specs.Refusals.{fault_number}
+use Rattle.cells.specs.declared.refusals.Fault.{Fault}
+use Rattle.records.specs.declared.inner.Stop.{Stop}
 use Rattle.records.specs.declared.inner.Walk.{Walk}
 use Rattle.cells.proofs.Cells.{within, span_pos}
 use Rattle.records.proofs.Fault.{fault_of, fault_table, not_early, faultless_good}
@@ -36,16 +38,10 @@ fault_is D l i = rw (fault_table D l i, early_past D l i, eight_run l i)
 
 -- ---- the walk's beginning and a step: c is the next code
 
-pub going : {D : ℕ} {l : List ℕ} {i : ℕ} {w : Walk} → w.number ≡ 0 → Faultless D l i w → Walked D l i w
-going z k = record { stopped = λ n. absurd (n z); is_number = λ n. absurd (n z); kept = λ _. k }
-
-pub walk_begins : (D : ℕ) (l : List ℕ) → Faultless D l 0 (record { number = 0; passed = 0; last = 0; past = 0; run = 0; sum = 0 })
+pub walk_begins : (D : ℕ) (l : List ℕ) (w : Walk) → (w.passed ≡ 0) × ((w.last ≡ 0) × ((w.past ≡ 0) × ((w.run ≡ 0) × (w.sum ≡ 0)))) → Faultless D l 0 w
 unfolding last_of past_of voxels run_of
-walk_begins D l = record { faultless = λ j h. absurd (omega arith); is_passed = refl; is_last = refl; is_past = refl; is_run = refl; is_sum = refl; few = zero-le; count = zero-le; within = zero-le }
-
--- a walk that has ended stays as it is
-pub stays : {D : ℕ} {l : List ℕ} {i n : ℕ} {w : Walk} → Walked D l i w → (w.number ≡ 0 → ⊥) → i ≤ n → Walked D l n w
-stays k some h = record { stopped = λ n. first_more h (k.stopped n); is_number = k.is_number; kept = λ z. absurd (some z) }
+walk_begins D l w (passed, (last, (past, (run, sum)))) =
+    record { faultless = λ j h. absurd (omega arith); is_passed = passed; is_last = last; is_past = past; is_run = run; is_sum = sum; few = omega arith; count = zero-le; within = omega arith }
 
 module _ {D : ℕ} {l : List ℕ} {i : ℕ} {w : Walk} {c : ℕ} (k : Faultless D l i w) (e : get_or l i 0 ≡ c) where
   next_is : run_of l (suc i) ≡ next_run w.last w.run c
@@ -66,22 +62,19 @@ module _ {D : ℕ} {l : List ℕ} {i : ℕ} {w : Walk} {c : ℕ} (k : Faultless 
   eighth p h r = rw (by_kept, p, le-ltb (start D c) w.past h, r)
 
   -- a fault ends the walk
-  pub stops : (r : Walk) (n : ℕ) → (r.number ≡ n) × (r.passed ≡ w.passed) → (n ≡ 0 → ⊥) → fault D l i ≡ n → Walked D l (i + 1) r
-  stops r n (is, at) some f =
-      let here : r.passed ≡ i = at ∙ k.is_passed in
+  pub stops : (n : Fault) → (fault_number n ≡ 0 → ⊥) → fault D l i ≡ fault_number n → Stopped D l (i + 1) (record { fault = n; at = w.passed })
+  stops n some f =
       record {
-        stopped = λ _. rw here (record { below = omega arith; here = λ z. some (sym f ∙ z); before = λ j h bad. bad (k.faultless j h) });
-        is_number = λ _. is ∙ sym f ∙ ap (fault D l) (sym here);
-        kept = λ z. absurd (some (sym is ∙ z));
+        stopped = rw k.is_passed (record { below = omega arith; here = λ z. some (sym f ∙ z); before = λ j h bad. bad (k.faultless j h) });
+        is_number = sym f ∙ ap (fault D l) (sym k.is_passed);
       }
 
   pub goes : proper D c ≡ true → w.past ≤ start D c → (next_run w.last w.run c ≡ 8 → ⊥)
-      → (r : Walk) → r.number ≡ 0 → r.passed ≡ w.passed + 1 → r.last ≡ c → r.past ≡ end D c → r.run ≡ next_run w.last w.run c → r.sum ≡ w.sum + span D c → Walked D l (i + 1) r
+      → (r : Walk) → r.passed ≡ w.passed + 1 → r.last ≡ c → r.past ≡ end D c → r.run ≡ next_run w.last w.run c → r.sum ≡ w.sum + span D c → Faultless D l (i + 1) r
   unfolding last_of past_of voxels
-  goes p h some r number passed last past run sum =
+  goes p h some r passed last past run sum =
       let none : fault D l i ≡ 0 = rw (by_kept, p, le-ltb (start D c) w.past h, ne_eqb (next_run w.last w.run c) 8 some) in
       rw add-one
-      (going number
       (record {
         faultless = λ j b. ⊎_elim (λ (x : j ≡ i). ap (fault D l) x ∙ none) (k.faultless j) (eq-or-lt_of_le (le_of_suc-le-suc b));
         is_passed = omega (arith, k.is_passed);
@@ -92,7 +85,7 @@ module _ {D : ℕ} {l : List ℕ} {i : ℕ} {w : Walk} {c : ℕ} (k : Faultless 
         few = omega (arith, k.few);
         count = omega (arith, k.count, span_pos D c);
         within = omega (arith, within D c p);
-      }))
+      })
 
 -- ---- the voxels
 
@@ -108,15 +101,15 @@ voxels_all D (c ∷ l) = voxels_cons D c l (length l) ∙ ap (λ (n : ℕ). span
 
 -- ---- what a walk along the whole list tells
 
-module _ (D : ℕ) (l : List ℕ) (w : Walk) (k : Walked D l (length l) w) where
-  pub walked_refuses : (n : ℕ) → (w.number ≡ 0 → ⊥) → Faulty D l n (answer w.number w.passed n)
-  walked_refuses n some = (w.passed, k.stopped some, ap (λ (x : ℕ). answer x w.passed n) (k.is_number some))
+pub stopped_refuses : (D : ℕ) (l : List ℕ) (s : Stop) → Stopped D l (length l) s → (n : ℕ) → Faulty D l n (answer (fault_number s.fault) s.at n)
+stopped_refuses D l s k n = (s.at, k.stopped, ap (λ (x : ℕ). answer x s.at n) k.is_number)
 
-  pub walked_good : w.number ≡ 0 → Good D l
-  walked_good z = faultless_good D l (k.kept z).faultless
+module _ (D : ℕ) (l : List ℕ) (w : Walk) (k : Faultless D l (length l) w) where
+  pub walked_good : Good D l
+  walked_good = faultless_good D l k.faultless
 
-  pub walked_passes : (n : ℕ) → w.number ≡ 0 → (a : Answer) → Faulty D l n a → ⊥
-  walked_passes n z = good_passes D l n (walked_good z)
+  pub walked_passes : (n : ℕ) (a : Answer) → Faulty D l n a → ⊥
+  walked_passes n = good_passes D l n walked_good
 
-  pub walked_volume : w.number ≡ 0 → w.sum ≡ volume D l
-  walked_volume z = (k.kept z).is_sum ∙ voxels_all D l
+  pub walked_volume : w.sum ≡ volume D l
+  walked_volume = k.is_sum ∙ voxels_all D l

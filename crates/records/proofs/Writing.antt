@@ -9,7 +9,7 @@ use lib.ListN.{length, set, take, drop, drop_of_length-le}
 use lib.Seq.{sets, sets-eq, length-take-le}
 use Rattle.cells.specs.Answer.{answer, given, Test, Decided, alone, keeping, deepest, TooDeep}
 use Rattle.cells.specs.declared.Answer.{Answer}
-use Rattle.cells.proofs.Decisions.{One, one_equal, one_refuses, one_refuses_first, one_decided, passes, deep_enough, Opening, opening_given, opening_refuses, opening_passes}
+use Rattle.cells.proofs.Decisions.{One, one_equal, one_refuses, one_refuses_first, one_decided, passes, deep_enough, Opening, opening_given, opening_passes}
 use Rattle.records.specs.Record.{Good}
 use Rattle.records.specs.Fault.{Faulty}
 use Rattle.records.specs.Writing.{stands, TooShort, WritesOf}
@@ -75,9 +75,6 @@ module _ (t o : List ℕ) where
     module _ (n : ℕ) (a : Answer) (d : Decided alone tests (λ x. x ≡ given n) a) where
       opens : Opening tests (λ x. x ≡ given n) (λ x. Unit {0})
       opens = opening_given (checks D l).numbered (λ passed. tt)
-
-      pub list_refused : (a.number ≡ 0 → ⊥) → ListWrites (a, o)
-      list_refused some = opening_refuses opens a d (keeping o) [] (WritesOf t o) some
 
       pub list_written : a.number ≡ 0 → (r : Answer) (after : List ℕ) → WritesOf t o (r, after) → ListWrites (r, after)
       list_written z r after w = opening_passes opens a d (keeping o) [] (WritesOf t o) (r, after) z w

@@ -1,10 +1,12 @@
 -- INNER: a walk along a list, leaf by leaf, that finds its first fault: what is kept of the leaves passed. It asks for one code after the other, so the list
 -- may be lent as a slice or stand in bytes. Definitions only.
-use Rattle.std.specs.Prelude.{◌≡◌, true, false, ◌&&◌, ◌||◌, List, [], ◌∷◌, ℕ, zero, suc, ◌+◌, ◌-◌, ◌%◌, ◌^◌, ◌≤◌, ◌<◌, leb, eqb, get_or, length}
+use Rattle.std.specs.Prelude.{◌≡◌, true, false, ◌&&◌, ◌||◌, List, [], ◌∷◌, ℕ, zero, suc, ◌+◌, ◌-◌, ◌%◌, ◌^◌, ◌≤◌, ◌<◌, leb, eqb, get_or, length, Result, Ok, Err}
 use Rattle.cells.specs.Answer.{given, Decided, alone, deepest, First}
 use Rattle.cells.specs.Cell.{span, end}
+use Rattle.cells.specs.Refusals.{fault_number}
 use Rattle.cells.specs.declared.Answer.{Answer}
 use Rattle.records.specs.Fault.{fault, Faulty}
+use Rattle.records.specs.declared.inner.Stop.{Stop}
 use Rattle.records.specs.declared.inner.Walk.{Walk}
 
 -- the last of the first i codes; the voxel number after its leaf; the voxels of the i leaves
@@ -48,11 +50,25 @@ pub record Underway (D : ℕ) (w : Walk) : Type 0 where
   pub index : ℕ
   pub kept : Faultless D list index w
 
--- w has passed the first i leaves of l up to the first that has a fault: its index and the number of its fault, or what is kept of all i
-pub record Walked (D : ℕ) (l : List ℕ) (i : ℕ) (w : Walk) : Type 0 where
-  pub stopped : (w.number ≡ 0 → ⊥) → First i (λ j. fault D l j ≡ 0 → ⊥) w.passed
-  pub is_number : (w.number ≡ 0 → ⊥) → w.number ≡ fault D l w.passed
-  pub kept : w.number ≡ 0 → Faultless D l i w
+-- s is the first fault of the first i leaves of l: its index and the number of its fault
+pub record Stopped (D : ℕ) (l : List ℕ) (i : ℕ) (s : Stop) : Type 0 where
+  pub stopped : First i (λ j. fault D l j ≡ 0 → ⊥) s.at
+  pub is_number : fault_number s.fault ≡ fault D l s.at
+
+-- r has passed the first i leaves of l up to the first that has a fault: that one, or what is kept of all i
+abbrev pub Walked : ℕ → List ℕ → ℕ → Result Walk Stop → Type 0
+Walked D l i (Ok w) = Faultless D l i w
+Walked D l i (Err s) = Stopped D l i s
+
+-- what is told at each index below n is the list's code there
+abbrev pub Tells : ℕ → (ℕ → ℕ → Type 0) → List ℕ → Type 0
+Tells n post l = (i c : ℕ) → i < n → post i c → get_or l i 0 ≡ c
+
+-- each index below n may be asked, and what is told there are the codes of some list
+pub record Asked (n : ℕ) (pre : ℕ → Type 0) (post : ℕ → ℕ → Type 0) : Type 0 where
+  pub may : (i : ℕ) → i < n → pre i
+  pub list : List ℕ
+  pub tells : Tells n post list
 
 -- what is told of the call's list k alone: its first fault, or its length
 abbrev pub JudgedOf : ℕ → List ℕ → ℕ → Answer → Type 0

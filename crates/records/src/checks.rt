@@ -1,31 +1,29 @@
 // What is told of a whole list: `check`, `volume`.
+ghost use Rattle.cells.specs.Refusals.{answer_of};
 ghost use Rattle.records.specs.Calls.{CheckOf, VolumeOf};
 
 use crate::inner::{judge, judged};
-use cells::inner::{refusal, success};
-use cells::{Answer, DEEPEST};
+use cells::{DEEPEST, Refusal};
 
-// Whether a list is good: the number of leaves, or 1 for the depth, 2 to 4 for the first fault.
-pub fn check(depth: u32, list: &[u32]) -> Answer
-    ensures { CheckOf depth list.now result }
+// How many leaves a good list has; refused for the depth, and for the list at its first fault.
+pub fn check(depth: u32, list: &[u32]) -> Result<usize, Refusal>
+    ensures { CheckOf depth list.now (answer_of result) }
 {
     if DEEPEST < depth {
-        return refusal(1, 0, 0);
+        return Err(Refusal::Depth);
     }
     judged(depth, list, 1)
 }
 
 // How many voxels are black; refused as `check` is.
-pub fn volume(depth: u32, list: &[u32]) -> Answer
-    ensures { VolumeOf depth list.now result }
+pub fn volume(depth: u32, list: &[u32]) -> Result<u32, Refusal>
+    ensures { VolumeOf depth list.now (answer_of result) }
 {
     if DEEPEST < depth {
-        return refusal(1, 0, 0);
+        return Err(Refusal::Depth);
     }
-    let walk = judge(depth, list);
-    let number = walk.number;
-    if number != 0 {
-        return refusal(number, walk.passed, 1);
+    match judge(depth, list) {
+        Ok(walk) => Ok(walk.sum),
+        Err(stop) => Err(stop.of_list(1)),
     }
-    success(walk.sum as u64)
 }

@@ -2,54 +2,42 @@
 pub mod findings;
 pub mod slots;
 
-ghost use Rattle.std.specs.Prelude.{◌≡◌, List, ℕ, suc, ◌+◌, ◌%◌, ◌^◌, ◌≤◌, ltb, length, get_or};
+ghost use Rattle.std.specs.Prelude.{◌≡◌, List, ℕ, suc, ◌+◌, ◌%◌, ◌^◌, ◌≤◌, ltb, length, get_or, MatchResult};
 ghost use Rattle.cells.specs.Answer.{deepest};
+ghost use Rattle.cells.specs.Refusals.{answer_of};
+ghost use Rattle.cells.specs.declared.refusals.Refusal.TheVariants.{Leaf};
 ghost use Rattle.cells.specs.Place.{axes, all_axes};
 ghost use Rattle.records.specs.Record.{Ordered};
 ghost use Rattle.records.specs.Inner.{Searchable, Starts, reaches};
-ghost use Rattle.records.specs.Walk.{next_run, Faultless, Underway, Walked, JudgedOf};
+ghost use Rattle.records.specs.Walk.{next_run, Faultless, Underway, Stopped, Walked, Asked, Tells, JudgedOf};
 
-use cells::Answer;
-use cells::inner::{first, is_proper, pow2, refusal, success, width};
+use cells::inner::{first, is_proper, pow2, width};
+use cells::{Fault, Refusal};
 
-// What is kept of the leaves passed: the number of the fault that ended the walk, 0 while there is none; how many leaves it passed; the last one's code;
-// the voxel number after it; how many siblings in a row end with it; the voxels of all.
-#[derive(Clone, Copy)]
+// The first fault of a list, and the index where it stands.
+#[derive(Clone, Copy, PartialEq, Eq, Debug)]
+pub struct Stop {
+    pub fault: Fault,
+    pub at: usize,
+}
+
+impl Stop {
+    // The refusal of list k.
+    pub fn of_list(self, k: u32) -> Refusal
+        ensures { result ≡ Leaf self.fault self.at k }
+    {
+        Refusal::Leaf(self.fault, self.at, k)
+    }
+}
+
+// What is kept of the leaves passed: how many; the last one's code; the voxel number after it; how many siblings in a row end with it; the voxels of all.
+#[derive(Clone, Copy, Default)]
 pub struct Walk {
-    pub number: u32,
-    pub passed: u64,
+    pub passed: usize,
     pub last: u32,
     pub past: u32,
     pub run: u32,
     pub sum: u32,
-}
-
-// The walk's beginning.
-pub fn begin() -> Walk
-    ensures { (result.number ≡ 0) × ((D : ℕ) (l : List ℕ) → Faultless D l 0 result) }
-{
-    Walk {
-        number: 0,
-        passed: 0,
-        last: 0,
-        past: 0,
-        run: 0,
-        sum: 0,
-    }
-}
-
-// A walk that ends with a fault at the next leaf.
-fn ended(number: u32, passed: u64) -> Walk
-    ensures { (result.number ≡ number) × (result.passed ≡ passed) }
-{
-    Walk {
-        number,
-        passed,
-        last: 0,
-        past: 0,
-        run: 0,
-        sum: 0,
-    }
 }
 
 // How many siblings in a row end with a code, where `run` of them end with the code `last` before it. A row begins with a first child.
@@ -69,74 +57,72 @@ fn next_run(last: u32, run: u32, code: u32) -> u32
     0
 }
 
-// A leaf more. The tests are those of document 01, in its order, on what is kept of the leaves before.
-pub fn step(depth: u32, walk: Walk, code: u32) -> Walk
-    requires { Underway depth walk }
-    ensures { (l : List ℕ) (i : ℕ) → Faultless depth l i walk → get_or l i 0 ≡ code → Walked depth l (i + 1) result }
-{
-    let passed = walk.passed;
-    if !is_proper(depth, code) {
-        return ended(2, passed);
-    }
-    let from = first(depth, code);
-    if from < walk.past {
-        return ended(3, passed);
-    }
-    let run = next_run(walk.last, walk.run, code);
-    if run == 8 {
-        return ended(4, passed);
-    }
-    let voxels = width(depth, code);
-    Walk {
-        number: 0,
-        passed: passed + 1,
-        last: code,
-        past: from + voxels,
-        run,
-        sum: walk.sum + voxels,
+impl Walk {
+    // A leaf more. The tests are those of document 01, in its order, on what is kept of the leaves before.
+    pub fn step(&mut self, depth: u32, code: u32) -> Result<(), Stop>
+        requires { Underway depth self.old }
+        ensures { (l : List ℕ) (i : ℕ) → Faultless depth l i self.old → get_or l i 0 ≡ code → MatchResult result (λ u. Faultless depth l (i + 1) self.new) (Stopped depth l (i + 1)) }
+    {
+        let at = self.passed;
+        if !is_proper(depth, code) {
+            let fault = Fault::NotProper;
+            return Err(Stop { fault, at });
+        }
+        let from = first(depth, code);
+        if from < self.past {
+            let fault = Fault::Early;
+            return Err(Stop { fault, at });
+        }
+        let run = next_run(self.last, self.run, code);
+        if run == 8 {
+            let fault = Fault::EightSiblings;
+            return Err(Stop { fault, at });
+        }
+        let voxels = width(depth, code);
+        *self = Walk {
+            passed: at + 1,
+            last: code,
+            past: from + voxels,
+            run,
+            sum: self.sum + voxels,
+        };
+        Ok(())
     }
 }
 
-// A walk along a list, to its end or its first fault.
-pub fn judge(depth: u32, list: &[u32]) -> Walk
+// A walk along n codes, each asked for by its index, to their end or the first fault.
+pub fn walk_along<F: Fn(usize) -> u32>(depth: u32, n: usize, code_at: F) -> Result<Walk, Stop>
+    requires { (depth ≤ deepest) × Asked n (F.pre code_at) (F.post code_at) }
+    ensures { (l : List ℕ) → Tells n (F.post code_at) l → Walked depth l n result }
+{
+    let mut walk = Walk::default();
+    for i in 0..n {
+        walk.step(depth, code_at(i))?;
+    }
+    Ok(walk)
+}
+
+// A walk along a list.
+pub fn judge(depth: u32, list: &[u32]) -> Result<Walk, Stop>
     requires { depth ≤ deepest }
     ensures { Walked depth list.now (length list.now) result }
 {
-    let mut walk = begin();
-    let mut i: usize = 0;
-    while i < list.len() {
-        walk = step(depth, walk, list[i]);
-        let number = walk.number;
-        if number != 0 {
-            return walk;
-        }
-        i += 1;
-    }
-    walk
+    walk_along(depth, list.len(), |i| list[i])
 }
 
-// What a walk along the whole of list k tells: the refusal at its first fault, or success with the number of its leaves.
-pub fn told(walk: Walk, k: u32) -> Answer
-    ensures { (D : ℕ) (l : List ℕ) → Walked D l (length l) walk → JudgedOf D l k result }
-{
-    let number = walk.number;
-    let passed = walk.passed;
-    if number != 0 {
-        return refusal(number, passed, k);
-    }
-    success(passed)
-}
-
-// The refusal of list k at its first fault, or success with the number of its leaves.
-pub fn judged(depth: u32, list: &[u32], k: u32) -> Answer
+// How many leaves list k has, or its refusal at its first fault.
+pub fn judged(depth: u32, list: &[u32], k: u32) -> Result<usize, Refusal>
     requires { depth ≤ deepest }
-    ensures { JudgedOf depth list.now k result }
+    ensures { JudgedOf depth list.now k (answer_of result) }
 {
-    let walk = judge(depth, list);
-    told(walk, k)
+    match judge(depth, list) {
+        Ok(walk) => Ok(walk.passed),
+        Err(stop) => Err(stop.of_list(k)),
+    }
 }
 
-// The first place from lo up to hi whose leaf starts at voxel v or after it, or hi.
+// The first place from lo up to hi whose leaf starts at voxel v or after it, or hi. (`partition_point` would ask that its test may be called on any number,
+// and `first` takes proper codes alone.)
 pub fn first_from(depth: u32, l: &[u32], v: u32, lo: usize, hi: usize) -> usize
     requires { Searchable depth l.now lo hi }
     ensures { Starts depth l.now v lo hi result }
@@ -173,11 +159,5 @@ pub fn in_root(depth: u32, x: u32, y: u32, z: u32) -> bool
     ensures { result ≡ all_axes (λ a. ltb (axes x y z a) (2 ^ depth)) }
 {
     let side = pow2(depth);
-    if side <= x {
-        return false;
-    }
-    if side <= y {
-        return false;
-    }
-    z < side
+    x < side && y < side && z < side
 }

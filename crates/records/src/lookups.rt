@@ -2,19 +2,18 @@
 ghost use Rattle.std.specs.Prelude.{◌≡◌, true, ◌≤◌, ◌<◌, ◌^◌};
 ghost use Rattle.cells.specs.Answer.{deepest};
 ghost use Rattle.records.specs.Record.{black, Good};
-ghost use Rattle.records.specs.Lookups.{Largest, SeenIn, LookupOf};
+ghost use Rattle.records.specs.Lookups.{Largest, seen, SeenIn, lookup_answer, LookupOf};
 ghost use Rattle.records.specs.Gap.{Gap, Free};
 
 use crate::checks::check;
-use crate::inner::findings::{found, unfound};
 use crate::inner::{first_from, in_root, last_reaches};
-use cells::Answer;
-use cells::inner::{first, level_of, number_of, part_at, refusal, width};
+use cells::Refusal;
+use cells::inner::{first, level_of, number_of, part_at, width};
 
-// What is told of a voxel: the answer and, beside it, the level of the largest cell of one colour that holds it. The level is 0 in a refusal.
-#[derive(Clone, Copy)]
+// What is told of a voxel: its colour, and the level of the largest cell of that colour that holds it.
+#[derive(Clone, Copy, PartialEq, Eq, Debug)]
 pub struct Finding {
-    pub answer: Answer,
+    pub black: bool,
     pub level: u32,
 }
 
@@ -59,26 +58,27 @@ fn white_level(depth: u32, list: &[u32], at: usize, v: u32) -> u32
 // leaf and the next.
 fn look_at(depth: u32, list: &[u32], v: u32) -> Finding
     requires { (depth ≤ deepest) × Good depth list.now × (v < 8 ^ depth) }
-    ensures { SeenIn depth (black depth list.now) v result }
+    ensures { SeenIn depth (black depth list.now) v (seen result.black result.level) }
 {
     let after = first_from(depth, list, v + 1, 0, list.len());
     if last_reaches(depth, list, after, v) {
-        return found(true, level_of(depth, list[after - 1]));
+        let level = level_of(depth, list[after - 1]);
+        return Finding { black: true, level };
     }
-    found(false, white_level(depth, list, after, v))
+    let level = white_level(depth, list, after, v);
+    Finding {
+        black: false,
+        level,
+    }
 }
 
-// Whether the voxel x, y, z is black, 1 or 0, and the level of its cell; refused as `check` is, then 6 for a voxel outside the root.
-pub fn lookup(depth: u32, list: &[u32], x: u32, y: u32, z: u32) -> Finding
-    ensures { LookupOf depth list.now x y z result }
+// The colour of the voxel x, y, z and the level of its cell; refused as `check` is, then for a voxel outside the root.
+pub fn lookup(depth: u32, list: &[u32], x: u32, y: u32, z: u32) -> Result<Finding, Refusal>
+    ensures { LookupOf depth list.now x y z (lookup_answer result) }
 {
-    let listed = check(depth, list);
-    let number = listed.number;
-    if number != 0 {
-        return unfound(listed);
-    }
+    check(depth, list)?;
     if !in_root(depth, x, y, z) {
-        return unfound(refusal(6, 0, 0));
+        return Err(Refusal::NoVoxel);
     }
-    look_at(depth, list, number_of(depth, x, y, z))
+    Ok(look_at(depth, list, number_of(depth, x, y, z)))
 }

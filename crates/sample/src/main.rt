@@ -8,8 +8,7 @@ use std::io;
 
 fn put(rt: &impl Print, list: &[u32]) -> io::Result<()> {
     let mut bytes = [0u8; 512];
-    let wrote = write(3, list, &mut bytes);
-    if wrote.number == 0 {
+    if write(3, list, &mut bytes).is_ok() {
         rt.write_all(&bytes)?;
     }
     Ok(())

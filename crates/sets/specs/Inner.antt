@@ -1,5 +1,5 @@
 -- INNER: for the contracts of the sweep over two lists. Definitions only.
-use Rattle.std.specs.Prelude.{◌≡◌, List, Bool, true, false, not, ◌&&◌, ◌||◌, ℕ, ◌^◌, ◌<◌, ◌≤◌, drop}
+use Rattle.std.specs.Prelude.{◌≡◌, List, Bool, true, false, not, ◌&&◌, ◌||◌, ℕ, ◌^◌, ◌<◌, ◌≤◌}
 use Rattle.cells.specs.Answer.{deepest}
 use Rattle.records.specs.Record.{black, Ordered}
 use Rattle.sets.specs.declared.Op.{Op}
@@ -17,11 +17,11 @@ chosen Subtract a b = a && not b
 unfoldable pub both : Op → ℕ → List ℕ → List ℕ → ℕ → Bool
 both op D a b v = chosen op (black D a v) (black D b v)
 
--- from voxel v on, the list l is its leaves from index i on, and none of these starts before v
-pub record Behind (D : ℕ) (l : List ℕ) (i v : ℕ) : Type 0 where
+-- from voxel v on, the list l is its leaves `rest`, and none of these starts before v
+pub record Behind (D : ℕ) (l rest : List ℕ) (v : ℕ) : Type 0 where
   pub root : v ≤ 8 ^ D
-  pub rest : (w : ℕ) → v ≤ w → black D l w ≡ black D (drop i l) w
-  pub ordered : Ordered D v (drop i l)
+  pub same : (w : ℕ) → v ≤ w → black D l w ≡ black D rest w
+  pub ordered : Ordered D v rest
 
 -- c is the first leaf of l that ends after voxel v: from v on, the list is white up to `from`, black up to `to`, and its further leaves after that
 pub record Points (D : ℕ) (l : List ℕ) (c : Cursor) (v : ℕ) : Type 0 where
@@ -30,7 +30,7 @@ pub record Points (D : ℕ) (l : List ℕ) (c : Cursor) (v : ℕ) : Type 0 where
   pub ahead : v < 8 ^ D → v < c.to
   pub before : (w : ℕ) → v ≤ w → w < c.from → black D l w ≡ false
   pub inside : (w : ℕ) → c.from ≤ w → w < c.to → black D l w ≡ true
-  pub behind : Behind D l c.at c.to
+  pub behind : Behind D l c.rest.now c.to
 
 -- c, the cursor from some voxel on, can come up to voxel `next`
 pub record Passing (D : ℕ) (l : List ℕ) (c : Cursor) (next : ℕ) : Type 0 where

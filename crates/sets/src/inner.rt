@@ -1,7 +1,8 @@
 // INNER: one sweep along the voxel numbers serves join, intersection and difference. A host must not call these.
 // Each list has a cursor, which keeps the start and the end of its leaf; where both lists are white the sweep jumps to the next leaf.
-ghost use Rattle.std.specs.Prelude.{◌≡◌, List, ℕ, ◌≤◌, ◌<◌, ◌^◌, min, max};
+ghost use Rattle.std.specs.Prelude.{◌≡◌, List, ℕ, ◌≤◌, ◌<◌, ◌^◌};
 ghost use Rattle.cells.specs.Answer.{deepest};
+ghost use Rattle.cells.specs.Refusals.{answer_of};
 ghost use Rattle.records.specs.Record.{Ordered};
 ghost use Rattle.records.specs.Writing.{WritesListOf};
 ghost use Rattle.emit.specs.Inner.{Result};
@@ -9,16 +10,16 @@ ghost use Rattle.sets.specs.Sets.{InResult};
 ghost use Rattle.sets.specs.Inner.{chosen, both, Behind, Points, Passing, Steady};
 
 use crate::Op;
-use cells::Answer;
-use cells::inner::{pow8, refusal, success, width};
+use cells::Refusal;
+use cells::inner::{pow8, width};
 use emit::inner::{Runs, finish, push};
 
-// A leaf of a list: the index where the list goes on after it, its least voxel number and the one after its last. Past the last leaf both are the root's end.
+// A leaf of a list: its least voxel number and the one after its last, and the leaves after it. Past the last leaf both numbers are the root's end.
 #[derive(Clone, Copy)]
-pub struct Cursor {
-    pub at: usize,
+pub struct Cursor<'a> {
     pub from: u32,
     pub to: u32,
+    pub rest: &'a [u32],
 }
 
 // From a voxel on: black or white, and up to where this lasts.
@@ -39,56 +40,42 @@ pub fn choose(op: Op, a: bool, b: bool) -> bool
     }
 }
 
-// The lesser and the greater of two voxel numbers.
-fn least(a: u32, b: u32) -> u32
-    ensures { result ≡ min a b }
-{
-    if a <= b { a } else { b }
-}
-
-fn greatest(a: u32, b: u32) -> u32
-    ensures { result ≡ max a b }
-{
-    if a <= b { b } else { a }
-}
-
-// The cursor at leaf i.
-fn load(depth: u32, list: &[u32], i: usize) -> Cursor
-    requires { (depth ≤ deepest) × ((v : ℕ) × Behind depth list.now i v) }
-    ensures { (v : ℕ) → Behind depth list.now i v → Points depth list.now result v }
+// The cursor at the first of the leaves of `list`.
+fn load(depth: u32, list: &[u32]) -> Cursor
+    requires { (depth ≤ deepest) × ((v : ℕ) × Ordered depth v list.now) }
+    ensures { (l : List ℕ) (v : ℕ) → Behind depth l list.now v → Points depth l result v }
 {
     let full = pow8(depth);
-    if list.len() <= i {
+    let Some((&code, rest)) = list.split_first() else {
         return Cursor {
-            at: i,
             from: full,
             to: full,
+            rest: list,
         };
-    }
-    let code = list[i];
+    };
     let w = width(depth, code);
     let from = code * w - full;
     Cursor {
-        at: i + 1,
-        from: from,
+        from,
         to: from + w,
+        rest,
     }
 }
 
 // The cursor from voxel `next` on, up to which it has come: the same, or the next leaf where this one ends.
-fn pass(depth: u32, list: &[u32], c: Cursor, next: u32) -> Cursor
-    requires { Passing depth list.now c next }
-    ensures { Points depth list.now result next }
+fn pass(depth: u32, c: Cursor, next: u32) -> Cursor
+    requires { (l : List ℕ) × Passing depth l c next }
+    ensures { (l : List ℕ) → Passing depth l c.entry next → Points depth l result next }
 {
     if next < c.to {
         return c;
     }
-    load(depth, list, c.at)
+    load(depth, c.rest)
 }
 
 // What a list has from voxel v on.
 fn look(c: Cursor, v: u32) -> Side
-    ensures { (D : ℕ) (l : List ℕ) → v < 8 ^ D → Points D l c v → Steady D l c v result }
+    ensures { (D : ℕ) (l : List ℕ) → v < 8 ^ D → Points D l c.entry v → Steady D l c.entry v result }
 {
     if c.from <= v {
         return Side {
@@ -108,36 +95,31 @@ fn sweep(op: Op, depth: u32, a: &[u32], b: &[u32], out: &mut [u32]) -> usize
     ensures { Result depth (both op depth a.now b.now) out.old out.new result }
 {
     let full = pow8(depth);
-    let mut r = Runs {
-        from: 0,
-        to: 0,
-        at: 0,
-    };
-    let mut x = load(depth, a, 0);
-    let mut y = load(depth, b, 0);
-    let mut v = least(x.from, y.from);
+    let mut r = Runs::default();
+    let mut x = load(depth, a);
+    let mut y = load(depth, b);
+    let mut v = x.from.min(y.from);
     while v < full {
         let s = look(x, v);
         let t = look(y, v);
-        let next = least(s.until, t.until);
+        let next = s.until.min(t.until);
         r = push(depth, r, choose(op, s.black, t.black), v, next, out);
-        x = pass(depth, a, x, next);
-        y = pass(depth, b, y, next);
-        v = greatest(next, least(x.from, y.from));
+        x = pass(depth, x, next);
+        y = pass(depth, y, next);
+        v = next.max(x.from.min(y.from));
     }
     finish(depth, r, out)
 }
 
 // The good list of the voxels that op takes, at the front of `out`; where it does not fit, `out` stays as it is.
 // The first sweep counts: it has the empty part of `out`, into which nothing is put.
-pub fn combine(op: Op, depth: u32, a: &[u32], b: &[u32], out: &mut [u32]) -> Answer
+pub fn combine(op: Op, depth: u32, a: &[u32], b: &[u32], out: &mut [u32]) -> Result<usize, Refusal>
     requires { (depth ≤ deepest) × Ordered depth 0 a.now × Ordered depth 0 b.now }
-    ensures { WritesListOf depth (InResult op depth a.now b.now) out.old (result, out.new) }
+    ensures { WritesListOf depth (InResult op depth a.now b.now) out.old (answer_of result, out.new) }
 {
     let need = sweep(op, depth, a, b, &mut out[..0]);
     if out.len() < need {
-        return refusal(8, need as u64, 0);
+        return Err(Refusal::TooShort(need));
     }
-    let place = sweep(op, depth, a, b, out);
-    success(place as u64)
+    Ok(sweep(op, depth, a, b, out))
 }

@@ -1,10 +1,10 @@
 -- Text put into a buffer, one part after the other. Assumes nothing.
-use mathlib.Core.Path.{◌≡◌, refl, sym, ap, ap₂, subst, ◌∙◌}
+use mathlib.Core.Path.{◌≡◌, refl, sym, ap₂, subst, ◌∙◌}
 use mathlib.Core.List.{List, [], ◌++◌}
-use Prim.Native.Nat.{ℕ, ◌+◌}
+use Prim.Native.Nat.{ℕ}
 use native.Mathlib.Omega.{arith}
-use lib.ListN.{length, length-append}
-use lib.Seq.{sets, length-sets}
+use lib.ListN.{length-append}
+use lib.Seq.{sets}
 use Rattle.records.proofs.Writing.{sets_append}
 use Rattle.text.specs.Inner.{Put}
 
@@ -20,10 +20,11 @@ put_append {o} {at} {l} {o₁} {n₁} {m} p q =
       place = q.place ∙ omega (arith, p.place, length-append l m);
     }
 
+-- a page of a buffer's bytes, at their front, and what the buffer is after the text
+pub put_front : {o : List ℕ} {at : ℕ} {l after : List ℕ} {r : ℕ} → Put o at l after r → {first last : List ℕ} {place : ℕ} → o ≡ first → at ≡ 0 → last ≡ after → place ≡ r
+    → Put first 0 l last place
+put_front {l = l} p e z f g = record { bytes = f ∙ p.bytes ∙ ap₂ (λ (x : List ℕ) (n : ℕ). sets x n l) e z; place = omega (arith, p.place) }
+
 -- the same text
 pub put_as : {o : List ℕ} {at : ℕ} {l m after : List ℕ} {r : ℕ} → l ≡ m → Put o at l after r → Put o at m after r
 put_as {o} {at} {l} {m} {after} {r} e p = subst (λ (x : List ℕ). Put o at x after r) e p
-
--- the buffer keeps its length
-pub put_length : {o : List ℕ} {at : ℕ} {l after : List ℕ} {r : ℕ} → Put o at l after r → length after ≡ length o
-put_length {o} {at} {l} p = ap length p.bytes ∙ length-sets o at l

@@ -2,12 +2,17 @@
 use Rattle.std.specs.Prelude.{◌≡◌, List, [], ◌∷◌, ◌++◌, ℕ, ◌+◌, ◌*◌, ◌^◌, ◌<◌, length}
 use Rattle.std.proofs.lemmas.List.Edits.{sets}
 use Rattle.cells.specs.Cell.{level, index}
+use Rattle.text.specs.declared.inner.parts.Page.{Page}
 use Rattle.text.specs.Text.{labels, path_lines, field, depth_word, leaves_word, volume_word}
 
 -- the text l is put over the bytes o from place `at` on, which leaves `after`: a byte past their end changes nothing; r is the place after it
 pub record Put (o : List ℕ) (at : ℕ) (l after : List ℕ) (r : ℕ) : Type 0 where
   pub bytes : after ≡ sets o at l
   pub place : r ≡ at + length l
+
+-- the text l is put to the page p, which is q then
+abbrev pub Puts : Page → List ℕ → Page → Type 0
+Puts p l q = Put p.bytes.now p.at l q.bytes.now q.at
 
 -- the bytes of each part at most: a number of 64 bits in decimal; the labels of a code of 32 bits; "depth ", " leaves " and " volume ", a number after each, and
 -- the line's end; r, the labels and the line's end

@@ -15,34 +15,28 @@ use std::io;
 // The joined record in its file, and the volumes in voxels: of ours, of theirs where it was moved to, of the join and of the intersection.
 fn report(rt: &impl Print, depth: u32, own: &[u32], moved: &[u32], file: &[u8]) -> io::Result<()> {
     let mut both = [0u32; LEAVES];
-    show(rt, b"the joined record\n", file)?;
-    tell(rt, b"volume of ours", volume(depth, own))?;
-    tell(rt, b"volume of theirs", volume(depth, moved))?;
-    tell(rt, b"volume of the join", stored_volume(file))?;
-    let made = intersect(depth, own, moved, &mut both);
-    let number = made.number;
-    if number != 0 {
-        return tell(rt, b"not intersected", made);
+    show(rt, "the joined record", file)?;
+    tell(rt, "volume of ours", volume(depth, own))?;
+    tell(rt, "volume of theirs", volume(depth, moved))?;
+    tell(rt, "volume of the join", stored_volume(file))?;
+    match intersect(depth, own, moved, &mut both) {
+        Ok(n) => tell(rt, "volume of the intersection", volume(depth, &both[..n])),
+        Err(refusal) => tell(rt, "not intersected", refusal),
     }
-    let n = made.place as usize;
-    tell(rt, b"volume of the intersection", volume(depth, &both[..n]))
 }
 
 // Two voxels of the joined record in its file: the colour of each, and the level of the largest cell of that colour that holds it. In the sample records the first
 // lies in the leaf r13, cut by theirs alone, and the second four voxels above it in r5, where nothing is cut.
 fn look(rt: &impl Print, file: &[u8]) -> io::Result<()> {
     let mut codes = [0u32; LEAVES];
-    let found = read(file, &mut codes);
-    let answer = found.answer;
-    let number = answer.number;
-    if number != 0 {
-        return tell(rt, b"not read", answer);
+    match read(file, &mut codes) {
+        Ok(found) => {
+            let joined = &codes[..found.leaves];
+            tell_found(rt, "voxel 7 3 1", lookup(found.depth, joined, 7, 3, 1))?;
+            tell_found(rt, "voxel 7 3 5", lookup(found.depth, joined, 7, 3, 5))
+        }
+        Err(refusal) => tell(rt, "not read", refusal),
     }
-    let depth = found.depth;
-    let n = answer.place as usize;
-    let joined = &codes[..n];
-    tell_found(rt, b"voxel 7 3 1", lookup(depth, joined, 7, 3, 1))?;
-    tell_found(rt, b"voxel 7 3 5", lookup(depth, joined, 7, 3, 5))
 }
 
 // The two lists joined, and the join stored.
@@ -50,37 +44,30 @@ fn store(rt: &impl Print, depth: u32, own: &[u32], moved: &[u32]) -> io::Result<
     let mut joined = [0u32; LEAVES];
     let mut file = [0u8; BYTES];
     let stored = merge(depth, own, moved, &mut joined, &mut file);
-    let number = stored.number;
-    tell(rt, b"joined and stored", stored)?;
-    if number != 0 {
-        return Ok(());
+    tell(rt, "joined and stored", stored)?;
+    if let Ok(size) = stored {
+        let written = &file[..size];
+        report(rt, depth, own, moved, written)?;
+        look(rt, written)?;
     }
-    let size = stored.place as usize;
-    let written = &file[..size];
-    report(rt, depth, own, moved, written)?;
-    look(rt, written)
+    Ok(())
 }
 
 // The job, with the words for the move's answer: ours is read; theirs is read and moved by `m`; and the two are joined and stored.
-fn take_in(rt: &impl Print, asked: &[u8], ours: &[u8], theirs: &[u8], m: Move) -> io::Result<()> {
+fn take_in(rt: &impl Print, asked: &str, ours: &[u8], theirs: &[u8], m: Move) -> io::Result<()> {
     let mut own = [0u32; LEAVES];
     let mut codes = [0u32; LEAVES];
     let mut moved = [0u32; LEAVES];
-    let found = read(ours, &mut own);
-    let answer = found.answer;
-    let number = answer.number;
-    if number != 0 {
-        return tell(rt, b"ours not read", answer);
-    }
+    let found = match read(ours, &mut own) {
+        Ok(found) => found,
+        Err(refusal) => return tell(rt, "ours not read", refusal),
+    };
     let arrived = arrive(found.depth, theirs, m, &mut codes, &mut moved);
-    let number = arrived.number;
     tell(rt, asked, arrived)?;
-    if number != 0 {
-        return Ok(());
+    if let Ok(k) = arrived {
+        store(rt, found.depth, &own[..found.leaves], &moved[..k])?;
     }
-    let n = answer.place as usize;
-    let k = arrived.place as usize;
-    store(rt, found.depth, &own[..n], &moved[..k])
+    Ok(())
 }
 
 // Their record with a byte of its first code changed.
@@ -89,7 +76,7 @@ fn show_damaged(rt: &impl Print, file: &mut [u8]) -> io::Result<()> {
         return Ok(());
     }
     file[16] = 255;
-    show(rt, b"the record that arrived, damaged\n", file)
+    show(rt, "the record that arrived, damaged", file)
 }
 
 fn main(rt: HostRuntime) -> io::Result<()> {
@@ -99,12 +86,12 @@ fn main(rt: HostRuntime) -> io::Result<()> {
     let k = load(&rt, 2, &mut arrived);
     let ours = &bytes[..n];
     let theirs = &arrived[..k];
-    show(&rt, b"our record\n", ours)?;
-    show(&rt, b"the record that arrived\n", theirs)?;
+    show(&rt, "our record", ours)?;
+    show(&rt, "the record that arrived", theirs)?;
     // their origin lies 4 voxels to the east and 2 to the north of ours
     take_in(
         &rt,
-        b"theirs moved by 4 2 0",
+        "theirs moved by 4 2 0",
         ours,
         theirs,
         Move::Voxels(4, 2, 0),
@@ -112,7 +99,7 @@ fn main(rt: HostRuntime) -> io::Result<()> {
     // one voxel further it would leave the root
     take_in(
         &rt,
-        b"theirs moved by 5 2 0",
+        "theirs moved by 5 2 0",
         ours,
         theirs,
         Move::Voxels(5, 2, 0),

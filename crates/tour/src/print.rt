@@ -2,7 +2,7 @@
 ghost use Rattle.std.specs.Prelude.{◌≡◌, ◌≤◌, length, take};
 
 use blocks::{BLOCK_BYTES, BLOCK_CODES, read};
-use cells::Answer;
+use cells::{Answer, Refusal};
 use reading::inner::read_full;
 use records::Finding;
 use std::env::Env;
@@ -37,49 +37,35 @@ pub fn load(rt: &(impl Env + Files + Eprint), i: usize, bytes: &mut [u8]) -> usi
     }
 }
 
-fn put(rt: &impl Print, text: &[u8]) -> io::Result<()> {
-    rt.write_all(text)
+// A call's answer, after what was asked.
+pub fn tell(rt: &impl Print, asked: &str, told: impl Into<Answer>) -> io::Result<()> {
+    let answer: Answer = told.into();
+    println!(rt; "{asked}: {answer}")
 }
 
-// What was asked, and the answer's number, place and list.
-fn put_answer(rt: &impl Print, asked: &[u8], answer: Answer) -> io::Result<()> {
-    put(rt, asked)?;
-    print!(rt;
-        ": number {} place {} list {}",
-        answer.number, answer.place, answer.list
-    )
-}
-
-// An answer, on a line.
-pub fn tell(rt: &impl Print, asked: &[u8], answer: Answer) -> io::Result<()> {
-    put_answer(rt, asked, answer)?;
-    put(rt, b"\n")
-}
-
-// What a lookup tells, on a line: its answer, and the level beside it.
-pub fn tell_found(rt: &impl Print, asked: &[u8], finding: Finding) -> io::Result<()> {
-    let answer = finding.answer;
-    put_answer(rt, asked, answer)?;
-    println!(rt; " level {}", finding.level)
+// What a lookup tells: its answer, and the level beside it.
+pub fn tell_found(rt: &impl Print, asked: &str, found: Result<Finding, Refusal>) -> io::Result<()> {
+    match found {
+        Ok(seen) => println!(rt;
+            "{asked}: {} level {}",
+            Answer::success(seen.black as u64),
+            seen.level
+        ),
+        Err(refusal) => println!(rt; "{asked}: {} level 0", Answer::from(refusal)),
+    }
 }
 
 // The listing of a stored file under its title, or why it has none.
-pub fn show(rt: &impl Print, title: &[u8], file: &[u8]) -> io::Result<()> {
-    put(rt, title)?;
+pub fn show(rt: &impl Print, title: &str, file: &[u8]) -> io::Result<()> {
+    println!(rt; "{title}")?;
     let mut codes = [0u32; LEAVES];
     let mut text = [0u8; LETTERS];
-    let found = read(file, &mut codes);
-    let answer = found.answer;
-    let number = answer.number;
-    if number != 0 {
-        return tell(rt, b"not read", answer);
+    let found = match read(file, &mut codes) {
+        Ok(found) => found,
+        Err(refusal) => return tell(rt, "not read", refusal),
+    };
+    match list_text(found.depth, &codes[..found.leaves], &mut text) {
+        Ok(size) => rt.write_all(&text[..size]),
+        Err(refusal) => tell(rt, "not listed", refusal),
     }
-    let n = answer.place as usize;
-    let listed = list_text(found.depth, &codes[..n], &mut text);
-    let number = listed.number;
-    if number != 0 {
-        return tell(rt, b"not listed", listed);
-    }
-    let size = listed.place as usize;
-    put(rt, &text[..size])
 }

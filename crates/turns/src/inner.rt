@@ -32,17 +32,12 @@ fn source_label(turns: u32, m: u32) -> u32
     let x = m % 2;
     let y = m / 2 % 2;
     let z = m / 4;
-    let n = turns % 4;
-    if n == 1 {
-        return label(y, 1 - x, z);
+    match turns % 4 {
+        0 => m,
+        1 => label(y, 1 - x, z),
+        2 => label(1 - x, 1 - y, z),
+        _ => label(1 - y, x, z),
     }
-    if n == 2 {
-        return label(1 - x, 1 - y, z);
-    }
-    if n == 3 {
-        return label(1 - y, x, z);
-    }
-    m
 }
 
 // The target cell c, slot s its source's leaves: none, one that has all of it, or smaller ones.
@@ -51,21 +46,14 @@ pub fn turn_cell(depth: u32, l: &[u32], c: Target, s: Slot, r: Runs, out: &mut [
     requires { Turning depth l.now c s r }
     ensures { Fed depth (turned depth l.now c.turns) c.from (c.from + 8 ^ c.k) out.old r out.new result }
 {
-    let from = c.from;
-    let k = c.k;
-    let w = pow8(k);
-    let t = tint_slot(depth, l, w, s);
-    match t {
+    let w = pow8(c.k);
+    match tint_slot(depth, l, w, s) {
         Tint::White => r,
-        Tint::Black => push(depth, r, true, from, from + w, out),
+        Tint::Black => push(depth, r, true, c.from, c.from + w, out),
         Tint::Mixed => {
-            let parts = cut_slot(depth, l, k - 1, s);
-            let first = Target {
-                from: from,
-                k: k - 1,
-                turns: c.turns,
-            };
-            turn_children(depth, l, first, parts, r, out)
+            let k = c.k - 1;
+            let parts = cut_slot(depth, l, k, s);
+            turn_children(depth, l, Target { k, ..c }, parts, r, out)
         }
     }
 }
@@ -83,26 +71,17 @@ pub fn turn_children(
     requires { KidsTurning depth l.now c parts r }
     ensures { Fed depth (turned depth l.now c.turns) c.from (c.from + 8 ^ suc c.k) out.old r out.new result }
 {
-    let k = c.k;
-    let turns = c.turns;
-    let span = pow8(k);
+    let span = pow8(c.k);
     let mut s = r;
     let mut v = c.from;
-    let mut m: u32 = 0;
-    while m < 8 {
-        let child = Target {
-            from: v,
-            k: k,
-            turns: turns,
-        };
-        let part = source_label(turns, m) as usize;
-        let slot = parts[part];
+    for m in 0..8 {
+        let child = Target { from: v, ..c };
+        let slot = parts[source_label(c.turns, m) as usize];
         // most children are white: they take no call
         if slot.lo < slot.hi {
             s = turn_cell(depth, l, child, slot, s, out);
         }
         v += span;
-        m += 1;
     }
     s
 }
@@ -112,17 +91,12 @@ pub fn turn_root(depth: u32, l: &[u32], turns: u32, out: &mut [u32]) -> usize
     requires { Source depth l.now }
     ensures { Result depth (turned depth l.now turns) out.old out.new result }
 {
-    let r = Runs {
-        from: 0,
-        to: 0,
-        at: 0,
-    };
     let all = Slot { lo: 0, hi: l.len() };
     let root = Target {
         from: 0,
         k: depth,
-        turns: turns,
+        turns,
     };
-    let s = turn_cell(depth, l, root, all, r, out);
+    let s = turn_cell(depth, l, root, all, Runs::default(), out);
     finish(depth, s, out)
 }

@@ -1,11 +1,9 @@
 // INNER: whether the blocks of a file are sound, word by word.
 ghost use Rattle.std.specs.Prelude.{◌≡◌, ◌+◌, ◌-◌, ◌*◌, ◌<◌, ◌≤◌, true, length, nat_eq};
-ghost use Rattle.cells.specs.Inner.{Stops};
 ghost use Rattle.records.specs.Fault.{all_from};
-ghost use Rattle.blocks.specs.Block.{block_bytes, block_codes, word, check, right_count, right_check, sound_block, blocks, whole, sound_at, codes};
-ghost use Rattle.blocks.specs.Inner.{Sound};
+ghost use Rattle.blocks.specs.Block.{block_bytes, block_codes, word, check, right_count, right_check, sound_block, blocks, whole, codes};
+ghost use Rattle.blocks.specs.Inner.{Sound, FirstUnsound};
 
-use crate::inner::sums::{no_sums, took};
 use crate::inner::words::word_at;
 use crate::{BLOCK_CODES, CHECK_A, CHECK_B, FIRST_CODE, Sums};
 use cells::DEEPEST;
@@ -15,11 +13,9 @@ pub fn sum_up(bytes: &[u8], i: usize) -> Sums
     requires { block_bytes * i + block_bytes ≤ length bytes.now }
     ensures { result ≡ check (word bytes.now i) 126 }
 {
-    let mut sums = no_sums();
-    let mut w: usize = 0;
-    while w < CHECK_A {
-        sums = took(sums, word_at(bytes, i, w));
-        w += 1;
+    let mut sums = Sums::new();
+    for w in 0..CHECK_A {
+        sums = sums.take(word_at(bytes, i, w));
     }
     sums
 }
@@ -30,13 +26,11 @@ pub fn right_check(bytes: &[u8], i: usize) -> bool
     ensures { result ≡ right_check (word bytes.now i) }
 {
     let sums = sum_up(bytes, i);
-    if word_at(bytes, i, CHECK_A) != sums.a {
-        return false;
-    }
-    word_at(bytes, i, CHECK_B) == sums.b
+    word_at(bytes, i, CHECK_A) == sums.a && word_at(bytes, i, CHECK_B) == sums.b
 }
 
 // Whether block i of n may hold k codes.
+#[tactic(auto, unfolding(crate::specs::Block::right_count))]
 pub fn right_count(n: usize, i: usize, k: usize) -> bool
     requires { i < n }
     ensures { result ≡ right_count n i k }
@@ -44,13 +38,7 @@ pub fn right_count(n: usize, i: usize, k: usize) -> bool
     if i + 1 < n {
         return k == BLOCK_CODES;
     }
-    if BLOCK_CODES < k {
-        return false;
-    }
-    if 0 < k {
-        return true;
-    }
-    n == 1
+    k <= BLOCK_CODES && (0 < k || n == 1)
 }
 
 // Whether the words of block i after its k codes are 0.
@@ -58,17 +46,16 @@ pub fn unused_zero(bytes: &[u8], i: usize, k: usize) -> bool
     requires { (block_bytes * i + block_bytes ≤ length bytes.now) × (k ≤ block_codes) }
     ensures { result ≡ all_from (λ w. nat_eq (word bytes.now i w) 0) (4 + k) (block_codes - k) }
 {
-    let mut w = FIRST_CODE + k;
-    while w < CHECK_A {
+    for w in FIRST_CODE + k..CHECK_A {
         if word_at(bytes, i, w) != 0 {
             return false;
         }
-        w += 1;
     }
     true
 }
 
 // Whether every word of block i of n is right, block 0's depth being given.
+#[tactic(auto, using(crate::proofs::Sound::right_most), unfolding(crate::specs::Block::sound_block))]
 pub fn is_sound(bytes: &[u8], i: usize, n: usize, depth: u32) -> bool
     requires { (block_bytes * n ≤ length bytes.now) × (i < n) }
     ensures { result ≡ sound_block (word bytes.now i) i n depth }
@@ -77,41 +64,27 @@ pub fn is_sound(bytes: &[u8], i: usize, n: usize, depth: u32) -> bool
     let number = word_at(bytes, i, 1) as usize;
     let d = word_at(bytes, i, 2);
     let k = word_at(bytes, i, 3) as usize;
-    if index != i {
-        return false;
-    }
-    if number != n {
-        return false;
-    }
-    if DEEPEST < d {
-        return false;
-    }
-    if d != depth {
-        return false;
-    }
-    if !right_count(n, i, k) {
-        return false;
-    }
-    if !unused_zero(bytes, i, k) {
-        return false;
-    }
-    right_check(bytes, i)
+    index == i
+        && number == n
+        && d <= DEEPEST
+        && d == depth
+        && right_count(n, i, k)
+        && unused_zero(bytes, i, k)
+        && right_check(bytes, i)
 }
 
-// The first unsound block of n, n where there is none: a whole file's.
-pub fn first_unsound(bytes: &[u8], n: usize) -> usize
+// The first unsound block of n, a whole file's.
+pub fn first_unsound(bytes: &[u8], n: usize) -> Option<usize>
     requires { (whole bytes.now ≡ true) × (n ≡ blocks bytes.now) }
-    ensures { Stops (blocks bytes.now) (sound_at bytes.now) result }
+    ensures { FirstUnsound bytes.now result }
 {
     let depth = word_at(bytes, 0, 2);
-    let mut i: usize = 0;
-    while i < n {
+    for i in 0..n {
         if !is_sound(bytes, i, n, depth) {
-            return i;
+            return Some(i);
         }
-        i += 1;
     }
-    i
+    None
 }
 
 // How many codes the n blocks of a sound file hold.

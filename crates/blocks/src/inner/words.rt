@@ -5,23 +5,12 @@ ghost use Rattle.blocks.specs.Inner.{stored};
 
 use crate::{BLOCK_BYTES, BLOCK_CODES, FIRST_CODE};
 
-// A byte as a number.
-fn wide(x: u8) -> u32
-    ensures { (result ≡ x) × (result < 256) }
-{
-    x as u32
-}
-
 // The four bytes from place p on, the lowest first.
 fn four_bytes(bytes: &[u8], p: usize) -> u32
     requires { p + 4 ≤ length bytes.now }
     ensures { result ≡ four_bytes bytes.now p }
 {
-    let b0 = wide(bytes[p]);
-    let b1 = wide(bytes[p + 1]);
-    let b2 = wide(bytes[p + 2]);
-    let b3 = wide(bytes[p + 3]);
-    b0 + 256 * (b1 + 256 * (b2 + 256 * b3))
+    u32::from_le_bytes([bytes[p], bytes[p + 1], bytes[p + 2], bytes[p + 3]])
 }
 
 // Word w of block i.
@@ -46,10 +35,5 @@ pub fn store_word(bytes: &mut [u8], i: usize, w: usize, x: u32)
     ensures { bytes.new ≡ stored bytes.old (block_bytes * i + 4 * w) x }
 {
     let p = BLOCK_BYTES * i + 4 * w;
-    let y = x / 256;
-    let z = y / 256;
-    bytes[p] = (x % 256) as u8;
-    bytes[p + 1] = (y % 256) as u8;
-    bytes[p + 2] = (z % 256) as u8;
-    bytes[p + 3] = (z / 256 % 256) as u8;
+    bytes[p..p + 4].copy_from_slice(&x.to_le_bytes());
 }

@@ -1,141 +1,120 @@
-// INNER: a text read cell by cell; its black leaves feed the emitter.
-ghost use Rattle.std.specs.Prelude.{◌≡◌, ℕ, suc, ◌≤◌};
+// INNER: a text read cell by cell; its black leaves feed the emitter. Where the text is wrong, the error is the place of the wrong byte.
+ghost use Rattle.std.specs.Prelude.{◌≡◌, ℕ, suc, ◌≤◌, Some, MatchResult};
 ghost use Rattle.cells.specs.Answer.{deepest};
+ghost use Rattle.cells.specs.Refusals.{answer_of};
 ghost use Rattle.df.specs.Df.{Tree};
-ghost use Rattle.df.specs.Inner.{head_of, InCommon, Ahead, Opens, ReadCell, ReadTextOf};
+ghost use Rattle.df.specs.Inner.{byte_of, head_of, HeadAt, InCommon, Ahead, Opens, CellRead, Stuck, ReadTextOf};
 
-use crate::inner::{BLACK, OPEN, WHITE};
-use cells::Answer;
-use cells::inner::{pow8, refusal, success};
+use crate::inner::Head;
+use cells::Refusal;
+use cells::inner::pow8;
 use emit::inner::{Runs, finish, push};
 
-// How far a text is read: the place of the next byte, the byte that the last cell begins with, and the emitter's state. Where the text is wrong, the place is that
-// of the wrong byte, and the head is 0.
-#[derive(Clone, Copy)]
+// How far a text is read: the place of the next byte, and the emitter's state.
+#[derive(Clone, Copy, Default)]
 pub struct Reader {
     pub at: usize,
-    pub head: u8,
     pub runs: Runs,
 }
 
-// The text is wrong at a place.
-fn wrong(at: usize, runs: Runs) -> Reader
-    ensures { (result.at ≡ at) × (result.head ≡ 0) }
-{
-    Reader { at, head: 0, runs }
+// A cell that is read: how it begins, and how far the text is read after it.
+#[derive(Clone, Copy)]
+pub struct Cell {
+    pub head: Head,
+    pub after: Reader,
 }
 
-// One child more, which begins with `head`: the letter of the leaf that all of them are, or OPEN, where they are not one leaf. Without a child it is 0.
-fn shared(alike: u8, head: u8) -> u8
-    ensures { (c : ℕ → Tree) (m : ℕ) → InCommon c m alike → head_of (c m) ≡ head → InCommon c (suc m) result }
+// How the cell at a place begins: there is none at a byte that is no head, nor past the end.
+fn head_at(text: &[u8], at: usize) -> Option<Head>
+    ensures { HeadAt text.now at result }
 {
-    if alike == 0 {
-        return head;
+    Head::of(*text.get(at)?)
+}
+
+// One child more, which begins with `head`: the head of the leaf that all of them are, or `Open`, where they are not one leaf.
+fn shared(alike: Option<Head>, head: Head) -> Head
+    ensures { (c : ℕ → Tree) (m : ℕ) → InCommon c m alike → head_of (c m) ≡ byte_of head → InCommon c (suc m) (Some result) }
+{
+    match alike {
+        None => head,
+        Some(other) => { if other == head { head } else { Head::Open } }
     }
-    if alike == head {
-        return head;
-    }
-    OPEN
 }
 
 // The cell with k levels left whose least voxel is `from`, from the next byte on.
 #[cycle(read_cell_read_gray)]
-pub fn read_cell(depth: u32, text: &[u8], k: u32, from: u32, r: Reader, out: &mut [u32]) -> Reader
+pub fn read_cell(
+    depth: u32,
+    text: &[u8],
+    k: u32,
+    from: u32,
+    r: Reader,
+    out: &mut [u32],
+) -> Result<Cell, usize>
     requires { Ahead depth text.now k from r }
-    ensures { ReadCell depth text.now k from out.old r out.new result }
+    ensures { MatchResult result (CellRead depth text.now k from out.old r out.new) (Stuck k text.now r.at) }
 {
     let at = r.at;
-    let runs = r.runs;
-    if text.len() <= at {
-        return wrong(at, runs);
-    }
-    let byte = text[at];
-    if byte == WHITE {
-        return Reader {
-            at: at + 1,
-            head: byte,
-            runs,
-        };
-    }
-    if byte == BLACK {
-        let next = push(depth, runs, true, from, from + pow8(k), out);
-        return Reader {
-            at: at + 1,
-            head: byte,
-            runs: next,
-        };
-    }
-    if byte != OPEN {
-        return wrong(at, runs);
-    }
-    if k == 0 {
-        return wrong(at, runs);
-    }
-    read_gray(depth, text, k - 1, from, r, out)
+    let Some(head) = head_at(text, at) else {
+        return Err(at);
+    };
+    let runs = match head {
+        Head::White => r.runs,
+        Head::Black => push(depth, r.runs, true, from, from + pow8(k), out),
+        Head::Open => {
+            if k == 0 {
+                return Err(at);
+            }
+            return read_gray(depth, text, k - 1, from, r, out);
+        }
+    };
+    let after = Reader { at: at + 1, runs };
+    Ok(Cell { head, after })
 }
 
 // A gray cell, whose eight children have k levels left each: where they are eight equal leaves, the last of them is wrong.
 #[cycle(read_cell_read_gray)]
-pub fn read_gray(depth: u32, text: &[u8], k: u32, from: u32, r: Reader, out: &mut [u32]) -> Reader
+pub fn read_gray(
+    depth: u32,
+    text: &[u8],
+    k: u32,
+    from: u32,
+    r: Reader,
+    out: &mut [u32],
+) -> Result<Cell, usize>
     requires { Opens depth text.now k from r }
-    ensures { ReadCell depth text.now (suc k) from out.old r out.new result }
+    ensures { MatchResult result (CellRead depth text.now (suc k) from out.old r out.new) (Stuck (suc k) text.now r.at) }
 {
     let span = pow8(k);
-    let begun = r.runs;
-    let mut s = Reader {
-        at: r.at + 1,
-        head: OPEN,
-        runs: begun,
-    };
+    let mut after = Reader { at: r.at + 1, ..r };
     let mut v = from;
-    let mut alike: u8 = 0;
-    let mut m: u32 = 0;
-    while m < 8 {
-        s = read_cell(depth, text, k, v, s, out);
-        let head = s.head;
-        if head == 0 {
-            return s;
-        }
-        alike = shared(alike, head);
+    let mut alike = None;
+    for _m in 0..8u32 {
+        let child = read_cell(depth, text, k, v, after, out)?;
+        alike = Some(shared(alike, child.head));
+        after = child.after;
         v += span;
-        m += 1;
     }
-    let at = s.at;
-    let runs = s.runs;
-    if alike != OPEN {
-        return wrong(at - 1, runs);
+    if alike != Some(Head::Open) {
+        return Err(after.at - 1);
     }
-    Reader {
-        at,
-        head: OPEN,
-        runs,
-    }
+    Ok(Cell {
+        head: Head::Open,
+        after,
+    })
 }
 
 // The whole text: 10 with the place of its first wrong byte, or the good list of its black voxels, as far as there is room, and its number of leaves.
-pub fn read_text(depth: u32, text: &[u8], out: &mut [u32]) -> Answer
+pub fn read_text(depth: u32, text: &[u8], out: &mut [u32]) -> Result<usize, Refusal>
     requires { depth ≤ deepest }
-    ensures { ReadTextOf depth text.now out.old out.new result }
+    ensures { ReadTextOf depth text.now out.old out.new (answer_of result) }
 {
-    let none = Runs {
-        from: 0,
-        to: 0,
-        at: 0,
+    let end = match read_cell(depth, text, depth, 0, Reader::default(), out) {
+        Ok(root) => root.after,
+        Err(at) => return Err(Refusal::BadText(at)),
     };
-    let begin = Reader {
-        at: 0,
-        head: OPEN,
-        runs: none,
-    };
-    let s = read_cell(depth, text, depth, 0, begin, out);
-    let at = s.at;
-    let head = s.head;
-    if head == 0 {
-        return refusal(10, at as u64, 0);
+    if end.at < text.len() {
+        return Err(Refusal::BadText(end.at));
     }
-    if at < text.len() {
-        return refusal(10, at as u64, 0);
-    }
-    let runs = s.runs;
-    success(finish(depth, runs, out) as u64)
+    Ok(finish(depth, end.runs, out))
 }

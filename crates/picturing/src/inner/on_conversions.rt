@@ -1,35 +1,30 @@
 // A list to bits, and bits to a list, each with so much room for its result. A buffer for bits holds ones before the call, so that each 0 in it was written.
-use crate::inner::bytes;
 use plain::{to_bits, to_list};
-use printing::inner::print;
+use printing::inner::print::{Items, Written, places};
 use std::io;
 
 fn painted(rt: &impl Print, depth: u32, list: &[u32], room: usize) -> io::Result<()> {
     let mut space = [255u8; 8];
-    let out = bytes::places(&mut space, room);
-    let r = to_bits(depth, list, out);
-    print::text(rt, b"to_bits")?;
-    print::number(rt, depth as u64)?;
-    print::codes(rt, list)?;
-    print::text(rt, b" room")?;
-    print::number(rt, out.len() as u64)?;
-    print::answer(rt, r)?;
-    bytes::front(rt, r, out)?;
-    print::end(rt)
+    let out = places(&mut space, room);
+    let answer = to_bits(depth, list, out);
+    let room = out.len();
+    println!(rt;
+        "to_bits {depth} {} room {room}: {}",
+        Items(list),
+        Written(answer, out)
+    )
 }
 
 fn gathered(rt: &impl Print, depth: u32, bits: &[u8], room: usize) -> io::Result<()> {
     let mut space = [0u32; 2];
-    let out = print::places(&mut space, room);
-    let r = to_list(depth, bits, out);
-    print::text(rt, b"to_list")?;
-    print::number(rt, depth as u64)?;
-    bytes::all(rt, bits)?;
-    print::text(rt, b" room")?;
-    print::number(rt, out.len() as u64)?;
-    print::answer(rt, r)?;
-    print::front(rt, r, out)?;
-    print::end(rt)
+    let out = places(&mut space, room);
+    let answer = to_list(depth, bits, out);
+    let room = out.len();
+    println!(rt;
+        "to_list {depth} {} room {room}: {}",
+        Items(bits),
+        Written(answer, out)
+    )
 }
 
 fn lists(rt: &impl Print) -> io::Result<()> {

@@ -1,19 +1,12 @@
 // Voxels looked up in bits, and in a list and its bits: the two engines tell the same.
-use crate::inner::bytes;
 use plain::lookup_bits;
 use printing::inner::on_records::lookup;
-use printing::inner::print;
+use printing::inner::print::{Items, Seen};
 use std::io;
 
 fn looked_up(rt: &impl Print, depth: u32, bits: &[u8], x: u32, y: u32, z: u32) -> io::Result<()> {
-    print::text(rt, b"lookup_bits")?;
-    print::number(rt, depth as u64)?;
-    bytes::all(rt, bits)?;
-    print::number(rt, x as u64)?;
-    print::number(rt, y as u64)?;
-    print::number(rt, z as u64)?;
-    print::finding(rt, lookup_bits(depth, bits, x, y, z))?;
-    print::end(rt)
+    let seen = Seen(lookup_bits(depth, bits, x, y, z));
+    println!(rt; "lookup_bits {depth} {} {x} {y} {z}: {seen}", Items(bits))
 }
 
 // A voxel of [r1, r20, r47] at depth 2: in the list, then in its bits.

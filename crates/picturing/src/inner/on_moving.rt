@@ -1,8 +1,7 @@
 // Moves of bits in whole voxels and in metres, each with so much room for its result, which holds ones before the call.
-use crate::inner::bytes;
 use metres::{Metres, Move};
 use plain::move_bits;
-use printing::inner::print;
+use printing::inner::print::{Items, Written, places};
 use std::io;
 
 fn whole(
@@ -15,36 +14,27 @@ fn whole(
     room: usize,
 ) -> io::Result<()> {
     let mut space = [255u8; 8];
-    let out = bytes::places(&mut space, room);
-    let r = move_bits(depth, bits, Move::Voxels(dx, dy, dz), out);
-    print::text(rt, b"move_bits")?;
-    print::number(rt, depth as u64)?;
-    bytes::all(rt, bits)?;
-    print::signed(rt, dx)?;
-    print::signed(rt, dy)?;
-    print::signed(rt, dz)?;
-    print::text(rt, b" room")?;
-    print::number(rt, out.len() as u64)?;
-    print::answer(rt, r)?;
-    bytes::front(rt, r, out)?;
-    print::end(rt)
+    let out = places(&mut space, room);
+    let answer = move_bits(depth, bits, Move::Voxels(dx, dy, dz), out);
+    let room = out.len();
+    println!(rt;
+        "move_bits {depth} {} {dx} {dy} {dz} room {room}: {}",
+        Items(bits),
+        Written(answer, out)
+    )
 }
 
 // In metres, under a name: the first voxel, and where it goes.
-fn in_metres(rt: &impl Print, depth: u32, name: &[u8], d: Metres, room: usize) -> io::Result<()> {
+fn in_metres(rt: &impl Print, depth: u32, name: &str, d: Metres, room: usize) -> io::Result<()> {
     let mut space = [255u8; 1];
-    let out = bytes::places(&mut space, room);
-    let r = move_bits(depth, &[1], Move::Metres(d), out);
-    print::text(rt, b"move_bits")?;
-    print::number(rt, depth as u64)?;
-    print::text(rt, b" [1] metres ")?;
-    print::text(rt, name)?;
-    print::number(rt, d.s as u64)?;
-    print::text(rt, b" room")?;
-    print::number(rt, out.len() as u64)?;
-    print::answer(rt, r)?;
-    bytes::front(rt, r, out)?;
-    print::end(rt)
+    let out = places(&mut space, room);
+    let answer = move_bits(depth, &[1], Move::Metres(d), out);
+    let room = out.len();
+    println!(rt;
+        "move_bits {depth} [1] metres {name} {} room {room}: {}",
+        d.s,
+        Written(answer, out)
+    )
 }
 
 fn accepted(rt: &impl Print) -> io::Result<()> {
@@ -79,32 +69,26 @@ fn displacement(x: f64, y: f64, z: f64, s: u32) -> Metres {
 
 fn rounded(rt: &impl Print) -> io::Result<()> {
     // a half goes away from zero, and one step down leaves the root; the bytes needed come before that
-    in_metres(rt, 1, b"0.0625", displacement(0.0625, 0.0, 0.0, 3), 1)?;
-    in_metres(rt, 1, b"-0.0625", displacement(-0.0625, 0.0, 0.0, 3), 1)?;
-    in_metres(rt, 1, b"-0.0625", displacement(-0.0625, 0.0, 0.0, 3), 0)
+    in_metres(rt, 1, "0.0625", displacement(0.0625, 0.0, 0.0, 3), 1)?;
+    in_metres(rt, 1, "-0.0625", displacement(-0.0625, 0.0, 0.0, 3), 1)?;
+    in_metres(rt, 1, "-0.0625", displacement(-0.0625, 0.0, 0.0, 3), 0)
 }
 
 fn no_numbers(rt: &impl Print) -> io::Result<()> {
     // in the order of the tests, what comes later being at fault too: the depth, the edge number, each coordinate; all come before the bytes needed
     let far = 1e308 * 10.0;
     let no_edge = displacement(far, far, far, 11);
-    in_metres(rt, 7, b"infinity", no_edge, 0)?;
-    in_metres(rt, 1, b"infinity", no_edge, 0)?;
-    in_metres(rt, 1, b"infinity", displacement(far, far, far, 3), 0)?;
+    in_metres(rt, 7, "infinity", no_edge, 0)?;
+    in_metres(rt, 1, "infinity", no_edge, 0)?;
+    in_metres(rt, 1, "infinity", displacement(far, far, far, 3), 0)?;
     in_metres(
         rt,
         1,
-        b"infinity along y and z",
+        "infinity along y and z",
         displacement(0.0, far, far, 3),
         0,
     )?;
-    in_metres(
-        rt,
-        1,
-        b"infinity along z",
-        displacement(0.0, 0.0, far, 3),
-        0,
-    )
+    in_metres(rt, 1, "infinity along z", displacement(0.0, 0.0, far, 3), 0)
 }
 
 pub fn run(rt: &impl Print) -> io::Result<()> {

@@ -1,21 +1,11 @@
 // Join, intersection and difference of bits, each with so much room for its result, which holds ones before the call.
-use crate::inner::bytes;
-use cells::Answer;
+use cells::Refusal;
 use plain::{intersect_bits, join_bits, subtract_bits};
-use printing::inner::print;
+use printing::inner::print::{Items, Written, places};
 use sets::Op;
 use std::io;
 
-// The call by its name.
-fn name(rt: &impl Print, op: Op) -> io::Result<()> {
-    match op {
-        Op::Join => print::text(rt, b"join_bits"),
-        Op::Intersect => print::text(rt, b"intersect_bits"),
-        Op::Subtract => print::text(rt, b"subtract_bits"),
-    }
-}
-
-fn call(op: Op, depth: u32, a: &[u8], b: &[u8], out: &mut [u8]) -> Answer {
+fn call(op: Op, depth: u32, a: &[u8], b: &[u8], out: &mut [u8]) -> Result<usize, Refusal> {
     match op {
         Op::Join => join_bits(depth, a, b, out),
         Op::Intersect => intersect_bits(depth, a, b, out),
@@ -25,17 +15,15 @@ fn call(op: Op, depth: u32, a: &[u8], b: &[u8], out: &mut [u8]) -> Answer {
 
 fn made(rt: &impl Print, op: Op, depth: u32, a: &[u8], b: &[u8], room: usize) -> io::Result<()> {
     let mut space = [255u8; 8];
-    let out = bytes::places(&mut space, room);
-    let r = call(op, depth, a, b, out);
-    name(rt, op)?;
-    print::number(rt, depth as u64)?;
-    bytes::all(rt, a)?;
-    bytes::all(rt, b)?;
-    print::text(rt, b" room")?;
-    print::number(rt, out.len() as u64)?;
-    print::answer(rt, r)?;
-    bytes::front(rt, r, out)?;
-    print::end(rt)
+    let out = places(&mut space, room);
+    let answer = call(op, depth, a, b, out);
+    let room = out.len();
+    println!(rt;
+        "{op}_bits {depth} {} {} room {room}: {}",
+        Items(a),
+        Items(b),
+        Written(answer, out)
+    )
 }
 
 // The three calls on the same inputs.

@@ -1,20 +1,48 @@
-// One bit of a buffer, read and written.
-ghost use Rattle.std.specs.Prelude.{◌≡◌, ◌*◌, ◌<◌, ◌≤◌, eqb, length};
-ghost use Rattle.plain.specs.Bits.{bytes_for, bit_at};
+// One bit of a buffer, read and written, and the bits of a root cube.
+ghost use Rattle.std.specs.Prelude.{◌≡◌, ◌*◌, ◌^◌, ◌<◌, ◌≤◌, eqb, length, MatchOption};
+ghost use Rattle.plain.specs.Bits.{bytes_for, bit_at, black_in};
 ghost use Rattle.plain.specs.Calls.{deepest_plain};
 ghost use Rattle.plain.specs.Inner.{marked};
 
 use cells::inner::pow8;
 
+// The bits of a root cube, in a buffer that has them all.
+#[derive(Clone, Copy)]
+pub struct Bits<'a> {
+    pub depth: u32,
+    pub bytes: &'a [u8],
+    ghost shallow: { depth ≤ deepest_plain },
+    ghost whole: { bytes_for depth ≤ length bytes.now },
+}
+
+impl<'a> Bits<'a> {
+    // The bits at the front of a buffer, if they are all there.
+    pub fn within(depth: u32, bytes: &'a [u8]) -> Option<Bits<'a>>
+        requires { depth ≤ deepest_plain }
+        ensures { MatchOption result (length bytes.now < bytes_for depth) (λ b. (b.depth ≡ depth) × (b.bytes.now ≡ bytes.now)) }
+    {
+        if bytes.len() < bytes_for(depth) {
+            return None;
+        }
+        Some(Bits { depth, bytes })
+    }
+
+    // Whether voxel v is black.
+    pub fn is_black(self, v: u32) -> bool
+        requires { v < 8 ^ self.depth }
+        ensures { result ≡ black_in self.entry.depth self.entry.bytes.now v }
+    {
+        is_one(self.bytes, v)
+    }
+}
+
 // The bytes of a root cube's bits: eight voxels to a byte, and one byte at depth 0.
+#[tactic(auto, unfolding(crate::specs::Bits::bytes_for))]
 pub fn bytes_for(depth: u32) -> usize
     requires { depth ≤ deepest_plain }
     ensures { result ≡ bytes_for depth }
 {
-    if depth == 0 {
-        return 1;
-    }
-    (pow8(depth) / 8) as usize
+    (pow8(depth) / 8).max(1) as usize
 }
 
 // Whether bit v is 1. The lowest bit of a byte comes first.

@@ -1,46 +1,32 @@
 // Where a voxel comes to, coordinate by coordinate.
-ghost use Rattle.std.specs.Prelude.{ℕ, ◌≤◌, ℤ, neg_ℤ};
-ghost use Rattle.cells.specs.Place.{axes};
-ghost use Rattle.moves.specs.Inner.{Splits};
+ghost use Rattle.std.specs.Prelude.{ℕ, ◌^◌, ◌<◌, ◌≤◌, ℤ, IfSome};
+ghost use Rattle.moves.specs.Inner.{Splits, AllSplit, parts};
 ghost use Rattle.plain.specs.Calls.{deepest_plain};
-ghost use Rattle.plain.specs.Inner.{Comes, ComesTo, AllSplit};
+ghost use Rattle.plain.specs.Inner.{Comes, ComesTo};
 
-use cells::inner::{axis, number_of, pow2, pow8};
-use moves::inner::{Parted, stays};
-use records::inner::in_root;
+use cells::inner::{axis, number_of, pow2};
+use moves::inner::{Displacement, Parted};
 
-// The displacement the other way.
-pub fn opposite(d: Parted) -> Parted
-    ensures { (z : ℤ) → Splits z d → Splits (neg_ℤ z) result }
-{
-    Parted {
-        up: d.down,
-        down: d.up,
-    }
-}
-
-// Where a coordinate comes to: the root's side, which is no coordinate, where it leaves the root.
-fn come(side: u32, x: u32, d: Parted) -> u32
+// Where a coordinate comes to, if it stays below the root's side.
+fn come(side: u32, x: u32, d: Parted) -> Option<u32>
     ensures { (z : ℤ) → Splits z d → Comes side z x result }
 {
-    if !stays(side, x, 1, d) {
-        return side;
+    if !d.stays(side, x, 1) {
+        return None;
     }
-    let place = x as u64 + d.up as u64 - d.down as u64;
-    place as u32
+    let place = u64::from(x) + u64::from(d.up) - u64::from(d.down);
+    Some(place as u32)
 }
 
-// Where a voxel comes to: the number of voxels, which is no voxel's, where it leaves the root.
-pub fn displace(depth: u32, u: u32, x: Parted, y: Parted, z: Parted) -> u32
+// Where a voxel comes to, if it stays in the root.
+pub fn displace(depth: u32, u: u32, d: Displacement) -> Option<u32>
     requires { depth ≤ deepest_plain }
-    ensures { (d : ℕ → ℤ) → AllSplit d (axes x y z) → ComesTo depth d u result }
+    ensures root { IfSome result (λ v. v < 8 ^ depth) }
+    ensures comes { (by : ℕ → ℤ) → AllSplit by (parts d) → ComesTo depth by u result }
 {
     let side = pow2(depth);
-    let i = come(side, axis(1, depth, u), x);
-    let j = come(side, axis(2, depth, u), y);
-    let k = come(side, axis(4, depth, u), z);
-    if !in_root(depth, i, j, k) {
-        return pow8(depth);
-    }
-    number_of(depth, i, j, k)
+    let x = come(side, axis(1, depth, u), d.x)?;
+    let y = come(side, axis(2, depth, u), d.y)?;
+    let z = come(side, axis(4, depth, u), d.z)?;
+    Some(number_of(depth, x, y, z))
 }

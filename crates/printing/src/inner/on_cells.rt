@@ -1,42 +1,25 @@
 // Cells and codes, and neighbours.
-use crate::inner::print;
+use crate::inner::print::told;
 use std::io;
 
 fn place(rt: &impl Print, depth: u32, code: u32) -> io::Result<()> {
-    let r = cells::place(depth, code);
-    let a = r.answer;
-    print::text(rt, b"place")?;
-    print::number(rt, depth as u64)?;
-    print::number(rt, code as u64)?;
-    print::answer(rt, a)?;
-    print::text(rt, b" at")?;
-    print::number(rt, r.x as u64)?;
-    print::number(rt, r.y as u64)?;
-    print::number(rt, r.z as u64)?;
-    print::level(rt, r.level)?;
-    print::end(rt)
+    match cells::place(depth, code) {
+        Ok(r) => println!(rt;
+            "place {depth} {code}: 0 0 0 at {} {} {} level {}",
+            r.x, r.y, r.z, r.level
+        ),
+        Err(refusal) => println!(rt; "place {depth} {code}: {} at 0 0 0 level 0", told(refusal)),
+    }
 }
 
 fn code(rt: &impl Print, depth: u32, x: u32, y: u32, z: u32, level: u32) -> io::Result<()> {
-    print::text(rt, b"code")?;
-    print::number(rt, depth as u64)?;
-    print::number(rt, x as u64)?;
-    print::number(rt, y as u64)?;
-    print::number(rt, z as u64)?;
-    print::number(rt, level as u64)?;
-    print::answer(rt, cells::code(depth, x, y, z, level))?;
-    print::end(rt)
+    let answer = told(cells::code(depth, x, y, z, level));
+    println!(rt; "code {depth} {x} {y} {z} {level}: {answer}")
 }
 
 fn neighbour(rt: &impl Print, depth: u32, code: u32, dx: i32, dy: i32, dz: i32) -> io::Result<()> {
-    print::text(rt, b"neighbour")?;
-    print::number(rt, depth as u64)?;
-    print::number(rt, code as u64)?;
-    print::signed(rt, dx)?;
-    print::signed(rt, dy)?;
-    print::signed(rt, dz)?;
-    print::answer(rt, cells::neighbour(depth, code, dx, dy, dz))?;
-    print::end(rt)
+    let answer = told(cells::neighbour(depth, code, dx, dy, dz));
+    println!(rt; "neighbour {depth} {code} {dx} {dy} {dz}: {answer}")
 }
 
 fn places_and_codes(rt: &impl Print) -> io::Result<()> {

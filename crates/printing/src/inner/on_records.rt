@@ -1,32 +1,20 @@
 // Lists: check, volume, lookup, leaves met.
-use crate::inner::print;
+use crate::inner::print::{Items, Seen, told};
 use std::io;
 
 fn check(rt: &impl Print, depth: u32, list: &[u32]) -> io::Result<()> {
-    print::text(rt, b"check")?;
-    print::number(rt, depth as u64)?;
-    print::codes(rt, list)?;
-    print::answer(rt, records::check(depth, list))?;
-    print::end(rt)
+    let answer = told(records::check(depth, list));
+    println!(rt; "check {depth} {}: {answer}", Items(list))
 }
 
 fn volume(rt: &impl Print, depth: u32, list: &[u32]) -> io::Result<()> {
-    print::text(rt, b"volume")?;
-    print::number(rt, depth as u64)?;
-    print::codes(rt, list)?;
-    print::answer(rt, records::volume(depth, list))?;
-    print::end(rt)
+    let answer = told(records::volume(depth, list));
+    println!(rt; "volume {depth} {}: {answer}", Items(list))
 }
 
 pub fn lookup(rt: &impl Print, depth: u32, list: &[u32], x: u32, y: u32, z: u32) -> io::Result<()> {
-    print::text(rt, b"lookup")?;
-    print::number(rt, depth as u64)?;
-    print::codes(rt, list)?;
-    print::number(rt, x as u64)?;
-    print::number(rt, y as u64)?;
-    print::number(rt, z as u64)?;
-    print::finding(rt, records::lookup(depth, list, x, y, z))?;
-    print::end(rt)
+    let seen = Seen(records::lookup(depth, list, x, y, z));
+    println!(rt; "lookup {depth} {} {x} {y} {z}: {seen}", Items(list))
 }
 
 fn meet_neighbour(
@@ -38,16 +26,12 @@ fn meet_neighbour(
     dy: i32,
     dz: i32,
 ) -> io::Result<()> {
-    print::text(rt, b"met")?;
-    print::number(rt, depth as u64)?;
-    print::codes(rt, list)?;
-    print::number(rt, code as u64)?;
-    print::signed(rt, dx)?;
-    print::signed(rt, dy)?;
-    print::signed(rt, dz)?;
-    print::answer(rt, records::met_at(depth, list, code, dx, dy, dz))?;
-    print::codes(rt, records::met(depth, list, code, dx, dy, dz))?;
-    print::end(rt)
+    let answer = told(records::met_at(depth, list, code, dx, dy, dz));
+    let leaves = Items(records::met(depth, list, code, dx, dy, dz));
+    println!(rt;
+        "met {depth} {} {code} {dx} {dy} {dz}: {answer} {leaves}",
+        Items(list)
+    )
 }
 
 fn checked_lists(rt: &impl Print) -> io::Result<()> {

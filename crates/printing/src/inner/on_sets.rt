@@ -1,19 +1,10 @@
 // Join, intersection and difference, each with so much room for its result.
-use crate::inner::print;
-use cells::Answer;
+use crate::inner::print::{Items, Written, places, told};
+use cells::Refusal;
 use sets::Op;
 use std::io;
 
-// The call by its name.
-fn name(rt: &impl Print, op: Op) -> io::Result<()> {
-    match op {
-        Op::Join => print::text(rt, b"join"),
-        Op::Intersect => print::text(rt, b"intersect"),
-        Op::Subtract => print::text(rt, b"subtract"),
-    }
-}
-
-fn call(op: Op, depth: u32, a: &[u32], b: &[u32], out: &mut [u32]) -> Answer {
+fn call(op: Op, depth: u32, a: &[u32], b: &[u32], out: &mut [u32]) -> Result<usize, Refusal> {
     match op {
         Op::Join => sets::join(depth, a, b, out),
         Op::Intersect => sets::intersect(depth, a, b, out),
@@ -24,19 +15,15 @@ fn call(op: Op, depth: u32, a: &[u32], b: &[u32], out: &mut [u32]) -> Answer {
 // The call's inputs and its answer, the codes at the front of its buffer, and the volume of the room, where its codes fill it.
 fn made(rt: &impl Print, op: Op, depth: u32, a: &[u32], b: &[u32], room: usize) -> io::Result<()> {
     let mut space = [0u32; 32];
-    let out = print::places(&mut space, room);
-    let r = call(op, depth, a, b, out);
-    name(rt, op)?;
-    print::number(rt, depth as u64)?;
-    print::codes(rt, a)?;
-    print::codes(rt, b)?;
-    print::text(rt, b" room")?;
-    print::number(rt, room as u64)?;
-    print::answer(rt, r)?;
-    print::front(rt, r, out)?;
-    print::text(rt, b" volume of the room")?;
-    print::answer(rt, records::volume(depth, out))?;
-    print::end(rt)
+    let out = places(&mut space, room);
+    let answer = call(op, depth, a, b, out);
+    let volume = told(records::volume(depth, out));
+    println!(rt;
+        "{op} {depth} {} {} room {room}: {} volume of the room: {volume}",
+        Items(a),
+        Items(b),
+        Written(answer, out)
+    )
 }
 
 fn published(rt: &impl Print) -> io::Result<()> {

@@ -1,21 +1,18 @@
-// Quarter turns, ticket 4 of document 02: lists turned, each with so much room for its result, and each refusal.
-use crate::inner::print;
+// Quarter turns: lists turned, each with so much room for its result, and each refusal.
+use crate::inner::print::{Items, Written, places};
 use std::io;
 use turns::turn_list;
 
 fn turned(rt: &impl Print, depth: u32, list: &[u32], turns: u32, room: usize) -> io::Result<()> {
     let mut space = [0u32; 2];
-    let out = print::places(&mut space, room);
-    let r = turn_list(depth, list, turns, out);
-    print::text(rt, b"turn")?;
-    print::number(rt, depth as u64)?;
-    print::codes(rt, list)?;
-    print::number(rt, turns as u64)?;
-    print::text(rt, b" room")?;
-    print::number(rt, out.len() as u64)?;
-    print::answer(rt, r)?;
-    print::front(rt, r, out)?;
-    print::end(rt)
+    let out = places(&mut space, room);
+    let answer = turn_list(depth, list, turns, out);
+    let room = out.len();
+    println!(rt;
+        "turn {depth} {} {turns} room {room}: {}",
+        Items(list),
+        Written(answer, out)
+    )
 }
 
 fn cells_of_depth_1(rt: &impl Print) -> io::Result<()> {

@@ -1,102 +1,76 @@
-// Words of a line on standard output.
-use cells::Answer;
-use moves::inner::part;
+// What a line shows of a call: its answer, items in brackets, and what it wrote at the front of a buffer.
+use cells::{Answer, Refusal};
 use records::Finding;
-use std::io;
+use std::fmt;
 
-pub fn text(rt: &impl Print, s: &[u8]) -> io::Result<()> {
-    rt.write_all(s)
-}
+// Items in brackets, a space between.
+#[derive(Clone, Copy)]
+pub struct Items<'a, T>(pub &'a [T]);
 
-// A number with a space before it.
-pub fn number(rt: &impl Print, n: u64) -> io::Result<()> {
-    print!(rt; " {n}")
-}
-
-// A signed number with a space before it.
-pub fn signed(rt: &impl Print, d: i32) -> io::Result<()> {
-    let p = part(d);
-    if 0 < p.down {
-        return print!(rt; " -{}", p.down);
+impl<T: fmt::Display> fmt::Display for Items<'_, T> {
+    fn fmt<W: fmt::Write>(&self, f: &mut fmt::Formatter<W>) -> fmt::Result {
+        f.write_str("[")?;
+        if let [first, rest @ ..] = self.0 {
+            write!(f, "{first}")?;
+            for item in rest {
+                write!(f, " {item}")?;
+            }
+        }
+        f.write_str("]")
     }
-    number(rt, p.up as u64)
 }
 
-// The code at index i of a list: a space before all but the first.
-fn item(rt: &impl Print, i: usize, code: u32) -> io::Result<()> {
-    if 0 < i {
-        text(rt, b" ")?;
+// An answer: its number, place and list.
+#[derive(Clone, Copy)]
+pub struct Numbers(pub Answer);
+
+impl fmt::Display for Numbers {
+    fn fmt<W: fmt::Write>(&self, f: &mut fmt::Formatter<W>) -> fmt::Result {
+        write!(f, "{} {} {}", self.0.number, self.0.place, self.0.list)
     }
-    print!(rt; "{code}")
 }
 
-fn items(rt: &impl Print, list: &[u32]) -> io::Result<()> {
-    let mut i: usize = 0;
-    while i < list.len() {
-        item(rt, i, list[i])?;
-        i += 1;
-    }
-    Ok(())
-}
-
-// The codes of a list, in brackets.
-pub fn codes(rt: &impl Print, list: &[u32]) -> io::Result<()> {
-    text(rt, b" [")?;
-    items(rt, list)?;
-    text(rt, b"]")
-}
-
-// Number, place and list, after a colon.
-pub fn answer(rt: &impl Print, a: Answer) -> io::Result<()> {
-    text(rt, b":")?;
-    number(rt, a.number as u64)?;
-    number(rt, a.place)?;
-    number(rt, a.list as u64)
-}
-
-pub fn level(rt: &impl Print, n: u32) -> io::Result<()> {
-    text(rt, b" level")?;
-    number(rt, n as u64)
+// The answer of a call.
+pub fn told(outcome: impl Into<Answer>) -> Numbers {
+    Numbers(outcome.into())
 }
 
 // What a lookup tells: its answer, and the level beside it.
-pub fn finding(rt: &impl Print, f: Finding) -> io::Result<()> {
-    let a = f.answer;
-    answer(rt, a)?;
-    level(rt, f.level)
-}
+#[derive(Clone, Copy)]
+pub struct Seen(pub Result<Finding, Refusal>);
 
-// The codes that an answer says are written at the front of a buffer: none where it is refused.
-pub fn front(rt: &impl Print, a: Answer, out: &[u32]) -> io::Result<()> {
-    let n = a.place as usize;
-    if a.number == 0 {
-        if n <= out.len() {
-            codes(rt, &out[..n])?;
+impl fmt::Display for Seen {
+    fn fmt<W: fmt::Write>(&self, f: &mut fmt::Formatter<W>) -> fmt::Result {
+        match self.0 {
+            Ok(seen) => write!(
+                f,
+                "{} level {}",
+                Numbers(Answer::success(seen.black as u64)),
+                seen.level
+            ),
+            Err(refusal) => write!(f, "{} level 0", Numbers(Answer::from(refusal))),
         }
     }
-    Ok(())
 }
 
-// The text that an answer says is written at the front of a buffer: none where it is refused.
-pub fn front_text(rt: &impl Print, a: Answer, bytes: &[u8]) -> io::Result<()> {
-    let n = a.place as usize;
-    if a.number == 0 {
-        if n <= bytes.len() {
-            text(rt, b" ")?;
-            text(rt, &bytes[..n])?;
+// The answer of a call that writes to the front of a buffer, and after it the items that it wrote.
+#[derive(Clone, Copy)]
+pub struct Written<'a, T>(pub Result<usize, Refusal>, pub &'a [T]);
+
+impl<T: fmt::Display> fmt::Display for Written<'_, T> {
+    fn fmt<W: fmt::Write>(&self, f: &mut fmt::Formatter<W>) -> fmt::Result {
+        write!(f, "{}", Numbers(Answer::from(self.0)))?;
+        if let Ok(n) = self.0 {
+            if let Some(items) = self.1.get(..n) {
+                write!(f, " {}", Items(items))?;
+            }
         }
+        Ok(())
     }
-    Ok(())
 }
 
 // The first places of a buffer, `room` of them or all.
-pub fn places(space: &mut [u32], room: usize) -> &mut [u32] {
-    if space.len() < room {
-        return space;
-    }
-    &mut space[..room]
-}
-
-pub fn end(rt: &impl Print) -> io::Result<()> {
-    text(rt, b"\n")
+pub fn places<T>(space: &mut [T], room: usize) -> &mut [T] {
+    let n = room.min(space.len());
+    &mut space[..n]
 }

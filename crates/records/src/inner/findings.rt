@@ -1,26 +1,16 @@
-// INNER: what a lookup tells, in a list or in bits.
+// INNER: what a lookup tells by the numbers of the table, in a list or in bits.
 ghost use Rattle.std.specs.Prelude.{◌≡◌};
-ghost use Rattle.records.specs.Lookups.{unseen, seen};
+ghost use Rattle.records.specs.Lookups.{lookup_answer};
 
 use crate::Finding;
-use cells::Answer;
-use cells::inner::success;
+use cells::{Answer, Refusal};
 
-// A refusal tells no level.
-pub fn unfound(answer: Answer) -> Finding
-    ensures { result ≡ unseen answer }
+// The answer, 1 or 0 for black or white, and the level beside it, which is 0 in a refusal.
+pub fn told(found: Result<Finding, Refusal>) -> (Answer, u32)
+    ensures { result ≡ ((lookup_answer found).answer, (lookup_answer found).level) }
 {
-    Finding { answer, level: 0 }
-}
-
-// A voxel's colour, and the level of its cell.
-pub fn found(black: bool, level: u32) -> Finding
-    ensures { result ≡ seen black level }
-{
-    let mut colour: u64 = 0;
-    if black {
-        colour = 1;
+    match found {
+        Ok(seen) => (Answer::success(u64::from(seen.black)), seen.level),
+        Err(refusal) => (Answer::from(refusal), 0),
     }
-    let answer = success(colour);
-    Finding { answer, level }
 }

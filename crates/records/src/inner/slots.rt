@@ -15,7 +15,7 @@ pub struct Slot {
 }
 
 // What is known of a piece: none of its voxels is black, all are, or nothing.
-#[derive(Clone, Copy)]
+#[derive(Clone, Copy, PartialEq)]
 pub enum Tint {
     White,
     Black,
@@ -55,18 +55,15 @@ pub fn cut_slot(depth: u32, l: &[u32], k: u32, s: Slot) -> [Slot; 8]
 {
     let w = pow8(k);
     let mut v = cell_from(depth, l, k + 1, s);
-    let mut i = s.lo;
-    let hi = s.hi;
-    let mut r = [Slot { lo: 0, hi: 0 }; 8];
-    let mut m: usize = 0;
-    while m < 8 {
+    let mut lo = s.lo;
+    let mut parts = [s; 8];
+    for part in parts.iter_mut() {
         v += w;
-        let e = first_from(depth, l, v, i, hi);
-        r[m] = Slot { lo: i, hi: e };
-        i = e;
-        m += 1;
+        let hi = first_from(depth, l, v, lo, s.hi);
+        *part = Slot { lo, hi };
+        lo = hi;
     }
-    r
+    parts
 }
 
 // The parts of a slot, one for each child. An empty slot, and one whose leaf has all of the cell, is each child's as it is.
@@ -74,10 +71,8 @@ pub fn split_slot(depth: u32, l: &[u32], k: u32, s: Slot) -> [Slot; 8]
     requires { OfCell depth l.now (suc k) s }
     ensures { (b : ℕ) → Of depth l.now (suc k) b s → (m : ℕ) → m < 8 → Of depth l.now k (8 * b + m) (slot_at result m) }
 {
-    let t = tint_slot(depth, l, pow8(k + 1), s);
-    match t {
-        Tint::White => [s; 8],
-        Tint::Black => [s; 8],
+    match tint_slot(depth, l, pow8(k + 1), s) {
+        Tint::White | Tint::Black => [s; 8],
         Tint::Mixed => cut_slot(depth, l, k, s),
     }
 }

@@ -26,17 +26,12 @@ pub fn copy_leaves(depth: u32, l: &[u32], c: Target, s: Slot, r: Runs, out: &mut
     ensures { (P : ℕ → Bool) (b : ℕ) → Of depth l.now c.k b s → Copies depth l.now b c P →
         Fed depth P c.from (c.from + 8 ^ c.k) out.old r out.new result }
 {
-    let from = c.from;
-    let k = c.k;
-    let base = cell_from(depth, l, k, s);
-    let hi = s.hi;
+    let base = cell_from(depth, l, c.k, s);
     let mut t = r;
-    let mut i = s.lo;
-    while i < hi {
+    for i in s.lo..s.hi {
         let code = l[i];
-        let v = from + (first(depth, code) - base);
+        let v = c.from + (first(depth, code) - base);
         t = push(depth, t, true, v, v + width(depth, code), out);
-        i += 1;
     }
     t
 }
@@ -47,12 +42,10 @@ pub fn copy_slot(depth: u32, l: &[u32], c: Target, s: Slot, r: Runs, out: &mut [
     ensures { (P : ℕ → Bool) (b : ℕ) → Of depth l.now c.k b s → Copies depth l.now b c P →
         Fed depth P c.from (c.from + 8 ^ c.k) out.old r out.new result }
 {
-    let from = c.from;
     let w = pow8(c.k);
-    let t = tint_slot(depth, l, w, s);
-    match t {
+    match tint_slot(depth, l, w, s) {
         Tint::White => r,
-        Tint::Black => push(depth, r, true, from, from + w, out),
+        Tint::Black => push(depth, r, true, c.from, c.from + w, out),
         Tint::Mixed => copy_leaves(depth, l, c, s, r, out),
     }
 }
@@ -71,24 +64,20 @@ pub fn shift_cell(
     requires { Aimed depth l.now w c t r }
     ensures { Fed depth (shifted depth l.now w) c.from (c.from + 8 ^ c.k) out.old r out.new result }
 {
-    let from = c.from;
-    let k = c.k;
-    let f = c.axes;
-    if f == 0 {
-        let s = t[0];
-        return copy_slot(depth, l, c, s, r, out);
+    if c.axes == 0 {
+        return copy_slot(depth, l, c, t[0], r, out);
     }
-    let span = pow8(k);
-    let tint = colour(depth, l, span, f, t);
-    match tint {
+    let span = pow8(c.k);
+    match colour(depth, l, span, c.axes, t) {
         Tint::White => r,
-        Tint::Black => push(depth, r, true, from, from + span, out),
+        Tint::Black => push(depth, r, true, c.from, c.from + span, out),
         Tint::Mixed => {
-            let p = split(depth, l, k - 1, f, t);
+            let k = c.k - 1;
+            let p = split(depth, l, k, c.axes, t);
             let first = Target {
-                from: from,
-                k: k - 1,
-                axes: axes(w, k - 1),
+                from: c.from,
+                k,
+                axes: axes(w, k),
             };
             shift_children(depth, l, w, first, p, r, out)
         }
@@ -109,20 +98,13 @@ pub fn shift_children(
     requires { Divides depth l.now w c p r }
     ensures { Fed depth (shifted depth l.now w) c.from (c.from + 8 ^ suc c.k) out.old r out.new result }
 {
-    let k = c.k;
-    let f = c.axes;
-    let span = pow8(k);
-    let h = (w >> (3 * k)) % 8;
+    let span = pow8(c.k);
+    let h = (w >> (3 * c.k)) % 8;
     let mut s = r;
     let mut v = c.from;
-    let mut m: u32 = 0;
-    while m < 8 {
-        let child = Target {
-            from: v,
-            k: k,
-            axes: f,
-        };
-        if f == 0 {
+    for m in 0..8 {
+        let child = Target { from: v, ..c };
+        if c.axes == 0 {
             let from = carry_label(h, m, 0) as usize;
             let label = sum_label(h, m, 0) as usize;
             s = copy_slot(depth, l, child, p[from][label], s, out);
@@ -130,7 +112,6 @@ pub fn shift_children(
             s = shift_cell(depth, l, w, child, pick(p, h, m), s, out);
         }
         v += span;
-        m += 1;
     }
     s
 }
@@ -140,17 +121,12 @@ pub fn shift_list(depth: u32, l: &[u32], w: u32, out: &mut [u32]) -> usize
     requires { Source depth l.now }
     ensures { Result depth (shifted depth l.now w) out.old out.new result }
 {
-    let r = Runs {
-        from: 0,
-        to: 0,
-        at: 0,
-    };
     let all = Slot { lo: 0, hi: l.len() };
     let root = Target {
         from: 0,
         k: depth,
         axes: axes(w, depth),
     };
-    let s = shift_cell(depth, l, w, root, [all; 8], r, out);
+    let s = shift_cell(depth, l, w, root, [all; 8], Runs::default(), out);
     finish(depth, s, out)
 }

@@ -41,11 +41,9 @@ pub fn axes(w: u32, k: u32) -> u32
 {
     let mut f: u32 = 0;
     let mut rest = w;
-    let mut n: u32 = 0;
-    while n < k {
+    for _n in 0..k {
         f = join_label(f, rest % 8);
-        rest = rest / 8;
-        n += 1;
+        rest /= 8;
     }
     f
 }

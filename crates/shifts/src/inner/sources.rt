@@ -13,13 +13,10 @@ pub fn split(depth: u32, l: &[u32], k: u32, f: u32, t: [Slot; 8]) -> [[Slot; 8];
     ensures { (S : ℕ → ℕ) → Slots depth l.now (suc k) f S t → Divided depth l.now k f S result }
 {
     let mut r = [t; 8];
-    let mut q: usize = 0;
-    while q < 8 {
+    for q in 0..8 {
         if within(f, q as u32) {
-            let s = t[q];
-            r[q] = split_slot(depth, l, k, s);
+            r[q] = split_slot(depth, l, k, t[q]);
         }
-        q += 1;
     }
     r
 }
@@ -30,36 +27,12 @@ pub fn pick(p: [[Slot; 8]; 8], h: u32, m: u32) -> [Slot; 8]
     ensures { (q : ℕ) → q < 8 → slot_at result q ≡ part_at p (carry_label h m q) (sum_label h m q) }
 {
     let mut r = [Slot { lo: 0, hi: 0 }; 8];
-    let mut q: usize = 0;
-    while q < 8 {
+    for q in 0..8 {
         let from = carry_label(h, m, q as u32) as usize;
         let label = sum_label(h, m, q as u32) as usize;
         r[q] = p[from][label];
-        q += 1;
     }
     r
-}
-
-fn same(a: Tint, b: Tint) -> bool
-    ensures { result ≡ true → a ≡ b }
-{
-    match a {
-        Tint::White => match b {
-            Tint::White => true,
-            Tint::Black => false,
-            Tint::Mixed => false,
-        },
-        Tint::Black => match b {
-            Tint::White => false,
-            Tint::Black => true,
-            Tint::Mixed => false,
-        },
-        Tint::Mixed => match b {
-            Tint::White => false,
-            Tint::Black => false,
-            Tint::Mixed => true,
-        },
-    }
 }
 
 // Whether slot q has the tint t, if it is needed.
@@ -67,10 +40,7 @@ pub fn agrees(depth: u32, l: &[u32], w: u32, f: u32, q: u32, s: Slot, t: Tint) -
     requires { (f < 8) × (q < 8) × (Uses f q → (n : ℕ) × OfCell depth l.now n s) }
     ensures { result ≡ true → Uses f q → SlotTint depth l.now w s t }
 {
-    if within(f, q) {
-        return same(tint_slot(depth, l, w, s), t);
-    }
-    true
+    !within(f, q) || tint_slot(depth, l, w, s) == t
 }
 
 // The tint that all needed slots of a cell of span w have; Mixed, where two differ.
@@ -78,15 +48,11 @@ pub fn colour(depth: u32, l: &[u32], w: u32, f: u32, t: [Slot; 8]) -> Tint
     requires { (f < 8) × ((n : ℕ) × OfCells depth l.now n f t) }
     ensures { SlotsTint depth l.now w f t result }
 {
-    let s = t[0];
-    let r = tint_slot(depth, l, w, s);
-    let mut q: usize = 1;
-    while q < 8 {
-        let s = t[q];
-        if !agrees(depth, l, w, f, q as u32, s, r) {
+    let r = tint_slot(depth, l, w, t[0]);
+    for q in 1..8 {
+        if !agrees(depth, l, w, f, q as u32, t[q], r) {
             return Tint::Mixed;
         }
-        q += 1;
     }
     r
 }

@@ -1,57 +1,36 @@
 // INNER: the lines of a listing, and the line of a refusal.
-ghost use Rattle.std.specs.Prelude.{◌≡◌, true, ℕ, ◌+◌, ◌*◌, ◌≤◌, ◌<◌, ◌^◌, length};
+ghost use Rattle.std.specs.Prelude.{◌≡◌, ℕ, ◌+◌, ◌*◌, ◌≤◌, ◌<◌, ◌^◌, length};
 ghost use Rattle.cells.specs.Answer.{deepest};
-ghost use Rattle.cells.specs.Cell.{proper};
 ghost use Rattle.records.specs.Record.{Ordered};
-ghost use Rattle.text.specs.Text.{path_lines, field, refused_text};
-ghost use Rattle.text.specs.Inner.{Put, longest_number, longest_head, longest_path, head_line, path_line, listing};
+ghost use Rattle.text.specs.Text.{path_lines, refused_text};
+ghost use Rattle.text.specs.Inner.{Put, Puts, longest_head, longest_path, head_line, listing};
 
-use crate::inner::parts::{put, put_decimal, put_labels, put_word};
+use crate::inner::parts::Page;
 
-// The path of a code.
-fn put_path(code: u32, bytes: &mut [u8], at: usize) -> usize
-    requires { at + longest_path < 2 ^ 64 }
-    ensures text { (D : ℕ) → proper D code ≡ true → Put bytes.old at (path_line D code) bytes.new result }
-    ensures near { result ≤ at + longest_path }
-{
-    let labels = put(114, bytes, at);
-    let end = put_labels(code, bytes, labels);
-    put(10, bytes, end)
-}
-
-// The paths of a list, one a line.
-fn put_paths(list: &[u32], bytes: &mut [u8], at: usize) -> usize
-    requires { at + longest_path * length list.now < 2 ^ 64 }
-    ensures { (D : ℕ) → Ordered D 0 list.now → Put bytes.old at (path_lines D list.now) bytes.new result }
-{
-    let mut place = at;
-    let mut i: usize = 0;
-    while i < list.len() {
-        place = put_path(list[i], bytes, place);
-        i += 1;
+impl Page<'_> {
+    // The paths of a list, one a line.
+    fn put_paths(&mut self, list: &[u32])
+        requires { self.old.at + longest_path * length list.now < 2 ^ 64 }
+        ensures same { self.new.bytes.ghost_name ≡ self.old.bytes.ghost_name }
+        ensures text { (D : ℕ) → Ordered D 0 list.now → Puts self.old (path_lines D list.now) self.new }
+    {
+        for code in list {
+            self.put_path(*code);
+        }
     }
-    place
-}
 
-// A word and a number.
-fn put_field(word: &[u8], n: u64, bytes: &mut [u8], at: usize) -> usize
-    requires { at + length word.now + longest_number < 2 ^ 64 }
-    ensures text { Put bytes.old at (field word.now n) bytes.new result }
-    ensures near { result ≤ at + length word.now + longest_number }
-{
-    let place = put_word(word, bytes, at);
-    put_decimal(n, bytes, place)
-}
-
-// The first line: depth, leaf count and black voxels.
-fn put_head(depth: u32, leaves: u64, voxels: u64, bytes: &mut [u8]) -> usize
-    ensures text { Put bytes.old 0 (head_line depth leaves voxels) bytes.new result }
-    ensures near { result ≤ longest_head }
-{
-    let a = put_field(b"depth ", depth as u64, bytes, 0);
-    let b = put_field(b" leaves ", leaves, bytes, a);
-    let c = put_field(b" volume ", voxels, bytes, b);
-    put(10, bytes, c)
+    // The first line: depth, leaf count and black voxels.
+    fn put_head(&mut self, depth: u32, leaves: u64, voxels: u64)
+        requires { self.old.at + longest_head < 2 ^ 64 }
+        ensures same { self.new.bytes.ghost_name ≡ self.old.bytes.ghost_name }
+        ensures text { Puts self.old (head_line depth leaves voxels) self.new }
+        ensures near { self.new.at ≤ self.old.at + longest_head }
+    {
+        self.put_field(b"depth ", depth as u64);
+        self.put_field(b" leaves ", leaves);
+        self.put_field(b" volume ", voxels);
+        self.put(10);
+    }
 }
 
 // The whole listing.
@@ -59,15 +38,19 @@ pub fn put_listing(depth: u32, list: &[u32], voxels: u64, bytes: &mut [u8]) -> u
     requires { (depth ≤ deepest) × Ordered depth 0 list.now × (length list.now ≤ 8 ^ depth) }
     ensures { Put bytes.old 0 (listing depth list.now voxels) bytes.new result }
 {
-    let at = put_head(depth, list.len() as u64, voxels, bytes);
-    put_paths(list, bytes, at)
+    let mut page = Page::new(bytes);
+    page.put_head(depth, list.len() as u64, voxels);
+    page.put_paths(list);
+    page.place()
 }
 
 // The line of a refusal.
 pub fn put_refused(number: u32, place: u64, bytes: &mut [u8]) -> usize
     ensures { Put bytes.old 0 (refused_text number place) bytes.new result }
 {
-    let a = put_field(b"refused ", number as u64, bytes, 0);
-    let b = put_field(b" ", place, bytes, a);
-    put(10, bytes, b)
+    let mut page = Page::new(bytes);
+    page.put_field(b"refused ", number as u64);
+    page.put_field(b" ", place);
+    page.put(10);
+    page.place()
 }

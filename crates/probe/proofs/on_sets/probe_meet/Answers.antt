@@ -1,0 +1,6 @@
+-- The library's answer, told.
+use Rattle.std.proofs.Common.{inr, arith}
+use Rattle.probe.proofs.on_sets.probe_meet.Goals as goal
+
+pub returns : goal.returns
+returns c = inr (omega arith, (_, c.intersect-r.ensures, rw c.from.ensures at c.tell.ensures))
