@@ -12,7 +12,8 @@ use lib.ListN.{length, get_or}
 use Rattle.cells.specs.Answer.{deepest}
 use Rattle.cells.proofs.Power.{pow8_suc}
 use Rattle.records.proofs.Edges.{child_edge, child_within}
-use Rattle.emit.specs.Inner.{Ready, fresh, Fed}
+use Rattle.emit.specs.declared.inner.Emitter.{Emitter}
+use Rattle.emit.specs.Inner.{Ready, fresh, Feeds}
 use Rattle.emit.proofs.Runs.{ready_none, fed_to}
 use Rattle.emit.proofs.Children.{Children, children_none, children_more, children_all}
 use Rattle.df.specs.Df.{Tree, leaf, gray, letter, opening, texts, spell, Allowed, shows}
@@ -20,7 +21,6 @@ use Rattle.df.specs.Inner.{Reads, Stuck, head_of, byte_of, Alike, InCommon, Ahea
 use Rattle.df.specs.declared.inner.Head.{Head}
 use Rattle.df.specs.declared.inner.Head.TheVariants.{Open, Black, White}
 use Rattle.df.specs.declared.inner.reading.Cell.{Cell}
-use Rattle.df.specs.declared.inner.reading.Reader.{Reader}
 use Rattle.df.proofs.Kids.{shows_child, up_to, up_to_below, up_to_from, one_more, texts_and_one}
 use Rattle.df.proofs.Spells.{letter_opens, head_leaf}
 use Rattle.df.proofs.Halves.{reads_none, reads_byte, reads_then, reads_as, stuck_here, stuck_child, stuck_eighth}
@@ -28,13 +28,13 @@ use Rattle.df.proofs.Halves.{reads_none, reads_byte, reads_then, reads_as, stuck
 -- ---- a cell
 
 -- a leaf
-pub leaf_read : {D : ℕ} {t : List ℕ} {n from : ℕ} {o : List ℕ} {r : Reader} {out : List ℕ} {s : Cell} (b : Bool) → r.at < length t → get_or t r.at 0 ≡ letter b → letter b ≡ byte_of s.head → s.after.at ≡ r.at + 1
-    → ((P : ℕ → Bool) → ((v : ℕ) → from ≤ v → v < from + 8 ^ n → P v ≡ b) → Fed D P from (from + 8 ^ n) o r.runs out s.after.runs) → CellRead D t n from o r out s
+pub leaf_read : {D : ℕ} {t : List ℕ} {n from at : ℕ} {e m : Emitter} {s : Cell} (b : Bool) → at < length t → get_or t at 0 ≡ letter b → letter b ≡ byte_of s.head → s.after ≡ at + 1
+    → ((P : ℕ → Bool) → ((v : ℕ) → from ≤ v → v < from + 8 ^ n → P v ≡ b) → Feeds D P from (from + 8 ^ n) e m) → CellRead D t n from at e m s
 unfolding spell head_of Allowed shows
-leaf_read {t = t} {r = r} b more byte head place fed = record {
+leaf_read {t = t} {at = at} b more byte head place fed = record {
   tree = leaf b;
   allowed = tt;
-  reads = subst (Reads t r.at (letter b ∷ [])) (sym place) (reads_as (ap (λ (x : ℕ). x ∷ []) byte) (reads_byte t r.at more));
+  reads = subst (Reads t at (letter b ∷ [])) (sym place) (reads_as (ap (λ (x : ℕ). x ∷ []) byte) (reads_byte t at more));
   head = head;
   fed = fed;
 }
@@ -102,31 +102,34 @@ module _ (c : ℕ → Tree) (m : ℕ) where
 
 -- ---- eight children
 
--- the first m children are read, n levels left under each, from the reading r on: the next begins at voxel v, and `alike` is what they have in common
-pub record KidsRead (D : ℕ) (t : List ℕ) (n from : ℕ) (o : List ℕ) (r : Reader) (out : List ℕ) (s : Reader) (v : ℕ) (alike : Option Head) (m : ℕ) : Type 0 where
+-- the first m children are read, n levels left under each, from place r on, up to place s: they took the emitter o to `out`, the next begins at voxel v, and `alike`
+-- is what they have in common
+pub record KidsRead (D : ℕ) (t : List ℕ) (n from r : ℕ) (o out : Emitter) (s v : ℕ) (alike : Option Head) (m : ℕ) : Type 0 where
+  pub same : out.out.ghost_name ≡ o.out.ghost_name
+  pub depth : out.depth ≡ o.depth
   pub turns : m ≤ 8
   pub trees : ℕ → Tree
   pub allowed : (i : ℕ) → i < m → Allowed n (trees i)
-  pub reads : Reads t r.at (texts (λ i. spell (trees i)) m) s.at
+  pub reads : Reads t r (texts (λ i. spell (trees i)) m) s
   pub common : InCommon trees m alike
-  pub fed : (P : ℕ → Bool) → ((i : ℕ) → i < m → (u : ℕ) → from + i * 8 ^ n ≤ u → u < from + i * 8 ^ n + 8 ^ n → P u ≡ shows n (trees i) u) → Children D P from o r.runs (8 ^ n) out s.runs v m
+  pub fed : (P : ℕ → Bool) → ((i : ℕ) → i < m → (u : ℕ) → from + i * 8 ^ n ≤ u → u < from + i * 8 ^ n + 8 ^ n → P u ≡ shows n (trees i) u) → Children D P from o (8 ^ n) out v m
 
-module _ {D : ℕ} {t : List ℕ} {n from : ℕ} {o : List ℕ} {r : Reader} where
-  pub kids_none : r.at ≤ length t → Ready D r.runs from → KidsRead D t n from o r o r from None 0
+module _ {D : ℕ} {t : List ℕ} {n from r : ℕ} {o : Emitter} where
+  pub kids_none : r ≤ length t → Ready D o.runs from → KidsRead D t n from r o o r from None 0
   unfolding texts
-  kids_none h ready = record { turns = omega arith; trees = λ i. leaf false; allowed = λ i g. absurd (omega arith); reads = reads_none t r.at h; common = refl; fed = λ P agree. children_none ready }
+  kids_none h ready = record { same = refl; depth = refl; turns = omega arith; trees = λ i. leaf false; allowed = λ i g. absurd (omega arith); reads = reads_none t r h; common = refl; fed = λ P agree. children_none ready }
 
-  module _ {out : List ℕ} {s : Reader} {v : ℕ} {alike : Option Head} {m : ℕ} (x : KidsRead D t n from o r out s v alike m) (cell : ℕ) (corner : from ≡ cell * 8 ^ suc n) where
+  module _ {out : Emitter} {s v : ℕ} {alike : Option Head} {m : ℕ} (x : KidsRead D t n from r o out s v alike m) (cell : ℕ) (corner : from ≡ cell * 8 ^ suc n) where
     -- child i, as the voxels of the cell's tree
     in_child : (i u : ℕ) → i < 8 → from + i * 8 ^ n ≤ u → u < from + i * 8 ^ n + 8 ^ n → shows (suc n) (gray x.trees) u ≡ shows n (x.trees i) u
     in_child i u h lo hi = shows_child n x.trees cell i u h (omega (arith, child_edge cell i n)) (omega (arith, child_edge cell i n))
 
     -- so the emitter is fed with the set of these
-    pub kids_fed : Children D (shows (suc n) (gray x.trees)) from o r.runs (8 ^ n) out s.runs v m
+    pub kids_fed : Children D (shows (suc n) (gray x.trees)) from o (8 ^ n) out v m
     kids_fed = x.fed (shows (suc n) (gray x.trees)) (λ i g u lo hi. in_child i u (omega (arith, x.turns)) lo hi)
 
     -- the next child can be read
-    pub kids_ahead : {q : Reader} → Ahead D t (suc n) from q → m < 8 → Ahead D t n v s
+    pub kids_ahead : {q : ℕ} → Ahead D t (suc n) from q o → m < 8 → Ahead D t n v s out
     kids_ahead a h = let k = kids_fed in record {
       deep = a.deep;
       level = omega (arith, a.level);
@@ -134,33 +137,36 @@ module _ {D : ℕ} {t : List ℕ} {n from : ℕ} {o : List ℕ} {r : Reader} whe
       cell = 8 * cell + m;
       corner = omega (arith, k.place, child_edge cell m n);
       within = x.reads.within;
+      depth = x.depth ∙ a.depth;
       ready = k.fed.ready;
     }
 
     -- one child more
-    pub kids_next : {out' : List ℕ} {s' : Cell} {alike' : Head} → m < 8 → CellRead D t n v out s out' s' → ((c : ℕ → Tree) (j : ℕ) → InCommon c j alike → head_of (c j) ≡ byte_of s'.head → InCommon c (suc j) (Some alike'))
-        → length out' ≡ length out → KidsRead D t n from o r out' s'.after (v + 8 ^ n) (Some alike') (m + 1)
-    kids_next h y shares size =
+    pub kids_next : {out' : Emitter} {s' : Cell} {alike' : Head} → m < 8 → CellRead D t n v s out out' s' → ((c : ℕ → Tree) (j : ℕ) → InCommon c j alike → head_of (c j) ≡ byte_of s'.head → InCommon c (suc j) (Some alike'))
+        → out'.out.ghost_name ≡ out.out.ghost_name → out'.depth ≡ out.depth → KidsRead D t n from r o out' s'.after (v + 8 ^ n) (Some alike') (m + 1)
+    kids_next h y shares same depth =
         let kids : ℕ → Tree = up_to m x.trees y.tree in
         rw (add-one m) (record {
+          same = same ∙ x.same;
+          depth = depth ∙ x.depth;
           turns = omega arith;
           trees = kids;
           allowed = one_more (λ i T. Allowed n T) m x.trees y.tree x.allowed y.allowed;
           reads = reads_as (sym (texts_and_one m x.trees y.tree)) (reads_then x.reads y.reads);
           common = shares kids m (common_same x.trees kids m alike (λ i g. sym (up_to_below m x.trees y.tree i g)) x.common) (ap head_of (up_to_from m x.trees y.tree m (omega arith)) ∙ y.head);
           fed = λ P agree.
-              rw (← add-one m) (children_more (x.fed P (λ i g u lo hi. agree i (omega arith) u lo hi ∙ ap (λ (T : Tree). shows n T u) (up_to_below m x.trees y.tree i g))) h refl size
+              rw (← add-one m) (children_more (x.fed P (λ i g u lo hi. agree i (omega arith) u lo hi ∙ ap (λ (T : Tree). shows n T u) (up_to_below m x.trees y.tree i g))) h refl same depth
               (y.fed P (λ u lo hi. agree m (omega arith) u (omega (arith, kids_fed.place)) (omega (arith, kids_fed.place)) ∙ ap (λ (T : Tree). shows n T u) (up_to_from m x.trees y.tree m (omega arith)))));
         })
 
     -- ---- the cell that opens one byte before them
 
-    module _ {a : ℕ} (more : a < length t) (opens : get_or t a 0 ≡ opening) (next : r.at ≡ a + 1) where
-      kids_reads : Reads t a (opening ∷ texts (λ i. spell (x.trees i)) m) s.at
+    module _ {a : ℕ} (more : a < length t) (opens : get_or t a 0 ≡ opening) (next : r ≡ a + 1) where
+      kids_reads : Reads t a (opening ∷ texts (λ i. spell (x.trees i)) m) s
       kids_reads = reads_then (reads_as (ap (λ (b : ℕ). b ∷ []) opens) (subst (Reads t a (get_or t a 0 ∷ [])) (sym next) (reads_byte t a more))) x.reads
 
       -- the next child is wrong
-      pub kids_stuck : {e : ℕ} → m < 8 → Stuck n t s.at e → Stuck (suc n) t a e
+      pub kids_stuck : {e : ℕ} → m < 8 → Stuck n t s e → Stuck (suc n) t a e
       kids_stuck h = stuck_child n m h x.trees x.allowed kids_reads
 
       module _ (all : 8 ≤ m) where
@@ -168,43 +174,44 @@ module _ {D : ℕ} {t : List ℕ} {n from : ℕ} {o : List ℕ} {r : Reader} whe
         eight = omega (arith, x.turns)
 
         -- the eighth makes eight equal leaves
-        pub kids_eighth : {k : ℕ} → (alike ≡ Some Open → ⊥) → s.at ≡ k + 1 → Stuck (suc n) t a k
+        pub kids_eighth : {k : ℕ} → (alike ≡ Some Open → ⊥) → s ≡ k + 1 → Stuck (suc n) t a k
         kids_eighth {k} one last = go alike x.common one
           where
-            whole : Reads t a (opening ∷ texts (λ i. spell (x.trees i)) 8) s.at
+            whole : Reads t a (opening ∷ texts (λ i. spell (x.trees i)) 8) s
             whole = reads_as (ap (λ (j : ℕ). opening ∷ texts (λ i. spell (x.trees i)) j) eight) kids_reads
 
             go : (h : Option Head) → InCommon x.trees m h → (h ≡ Some Open → ⊥) → Stuck (suc n) t a k
             go None z u = absurd (omega arith)
             go (Some Open) z u = absurd (u refl)
-            go (Some Black) z u = stuck_eighth n x.trees true (λ i h. z.1 i (omega arith)) t a k s.at whole last
-            go (Some White) z u = stuck_eighth n x.trees false (λ i h. z.1 i (omega arith)) t a k s.at whole last
+            go (Some Black) z u = stuck_eighth n x.trees true (λ i h. z.1 i (omega arith)) t a k s whole last
+            go (Some White) z u = stuck_eighth n x.trees false (λ i h. z.1 i (omega arith)) t a k s whole last
 
         -- the eight are read
-        pub kids_gray : {q : Reader} {s' : Cell} → q.at ≡ a → q.runs ≡ r.runs → alike ≡ Some Open → s'.after ≡ s → s'.head ≡ Open → CellRead D t (suc n) from o q out s'
+        pub kids_gray : {s' : Cell} → alike ≡ Some Open → s'.after ≡ s → s'.head ≡ Open → CellRead D t (suc n) from a o out s'
         unfolding spell head_of Allowed
-        kids_gray {q} {s'} at runs mixed after head = record {
+        kids_gray {s'} mixed after head = record {
           tree = gray x.trees;
           allowed = (λ i h. x.allowed i (omega arith), λ b one. (rw mixed at x.common).1 b (λ i h. one i (omega (arith, x.turns))));
-          reads = rw (at, after) (reads_as (ap (λ (j : ℕ). opening ∷ texts (λ i. spell (x.trees i)) j) eight) kids_reads);
+          reads = rw after (reads_as (ap (λ (j : ℕ). opening ∷ texts (λ i. spell (x.trees i)) j) eight) kids_reads);
           head = rw head refl;
-          fed = λ P agree. rw (runs, after) (children_all (x.fed P (λ i h u lo hi. agree u (omega arith) (omega (arith, child_within i (8 ^ n) (omega (arith, x.turns)), pow8_suc n)) ∙ in_child i u (omega (arith, x.turns)) lo hi)) (8 ^ suc n) all (pow8_suc n));
+          fed = λ P agree. children_all (x.fed P (λ i h u lo hi. agree u (omega arith) (omega (arith, child_within i (8 ^ n) (omega (arith, x.turns)), pow8_suc n)) ∙ in_child i u (omega (arith, x.turns)) lo hi)) (8 ^ suc n) all (pow8_suc n);
         }
 
 -- ---- the root
 
 -- the text can be read from its beginning
-pub root_ahead : (D : ℕ) (t : List ℕ) → D ≤ deepest → Ahead D t D 0 (record { at = 0; runs = fresh 0 0 })
-root_ahead D t deep = record {
+pub root_ahead : (D : ℕ) (t : List ℕ) {e : Emitter} → D ≤ deepest → e.depth ≡ D → e.runs ≡ fresh 0 0 → Ahead D t D 0 0 e
+root_ahead D t deep depth begun = record {
   deep = deep;
   level = omega arith;
   root = omega arith;
   cell = 0;
   corner = sym (zero-mul (8 ^ D));
   within = omega arith;
-  ready = ready_none;
+  depth = depth;
+  ready = rw begun ready_none;
 }
 
 -- all its voxels are fed
-pub root_fed : {D : ℕ} {t o out : List ℕ} {s : Cell} (x : CellRead D t D 0 o (record { at = 0; runs = fresh 0 0 }) out s) → Fed D (shows D x.tree) 0 (8 ^ D) o (fresh 0 0) out s.after.runs
+pub root_fed : {D : ℕ} {t : List ℕ} {e m : Emitter} {s : Cell} (x : CellRead D t D 0 0 e m s) → Feeds D (shows D x.tree) 0 (8 ^ D) e m
 root_fed {D} x = fed_to D (shows D x.tree) (zero-add (8 ^ D)) (x.fed (shows D x.tree) (λ v lo hi. refl))

@@ -5,13 +5,13 @@ use Rattle.cells.specs.declared.Answer.{Answer}
 use Rattle.records.specs.Record.{Good}
 use Rattle.records.specs.Slot.{OfCell, slot_at}
 use Rattle.records.specs.declared.inner.slots.Slot.{Slot}
-use Rattle.emit.specs.Inner.{Ready, Fed, Result}
+use Rattle.emit.specs.Inner.{Ready, Feeds, Result}
+use Rattle.emit.specs.declared.inner.Emitter.{Emitter}
 use Rattle.text.specs.Inner.{Put}
 use Rattle.df.specs.Df.{Tree, leaf, gray, letter, opening, texts, spell, Allowed, shows, Acceptable, WrongByte, StopsEarly}
 use Rattle.df.specs.declared.inner.Head.{Head}
 use Rattle.df.specs.declared.inner.Head.TheVariants.{Open, Black, White}
 use Rattle.df.specs.declared.inner.reading.Cell.{Cell}
-use Rattle.df.specs.declared.inner.reading.Reader.{Reader}
 
 -- ---- a list spelled
 
@@ -100,29 +100,30 @@ abbrev pub InCommon : (ℕ → Tree) → ℕ → Option Head → Type 0
 InCommon c m None = m ≡ 0
 InCommon c m (Some h) = (0 < m) × Alike c m h
 
--- the text t can be read on for the cell with n levels left whose least voxel is `from`; the emitter is ready for it
-pub record Ahead (D : ℕ) (t : List ℕ) (n from : ℕ) (r : Reader) : Type 0 where
+-- the text t can be read on from place `at` for the cell with n levels left whose least voxel is `from`; the emitter is ready for it
+pub record Ahead (D : ℕ) (t : List ℕ) (n from at : ℕ) (e : Emitter) : Type 0 where
   pub deep : D ≤ deepest
   pub level : n ≤ D
   pub root : from + 8 ^ n ≤ 8 ^ D
   pub cell : ℕ
   pub corner : from ≡ cell * 8 ^ n
-  pub within : r.at ≤ length t
-  pub ready : Ready D r.runs from
+  pub within : at ≤ length t
+  pub depth : e.depth ≡ D
+  pub ready : Ready D e.runs from
 
 -- the same, where the next byte opens a gray cell whose children have n levels left
-pub record Opens (D : ℕ) (t : List ℕ) (n from : ℕ) (r : Reader) : Type 0 where
-  pub ahead : Ahead D t (suc n) from r
-  pub more : r.at < length t
-  pub opens : get_or t r.at 0 ≡ opening
+pub record Opens (D : ℕ) (t : List ℕ) (n from at : ℕ) (e : Emitter) : Type 0 where
+  pub ahead : Ahead D t (suc n) from at e
+  pub more : at < length t
+  pub opens : get_or t at 0 ≡ opening
 
--- the cell is read: its tree is spelled by the bytes read, and the emitter is fed with its voxels
-pub record CellRead (D : ℕ) (t : List ℕ) (n from : ℕ) (o : List ℕ) (r : Reader) (out : List ℕ) (s : Cell) : Type 0 where
+-- the cell is read from place `at` on: its tree is spelled by the bytes read, and its voxels take the emitter e to m
+pub record CellRead (D : ℕ) (t : List ℕ) (n from at : ℕ) (e m : Emitter) (s : Cell) : Type 0 where
   pub tree : Tree
   pub allowed : Allowed n tree
-  pub reads : Reads t r.at (spell tree) s.after.at
+  pub reads : Reads t at (spell tree) s.after
   pub head : head_of tree ≡ byte_of s.head
-  pub fed : (P : ℕ → Bool) → ((v : ℕ) → from ≤ v → v < from + 8 ^ n → P v ≡ shows n tree v) → Fed D P from (from + 8 ^ n) o r.runs out s.after.runs
+  pub fed : (P : ℕ → Bool) → ((v : ℕ) → from ≤ v → v < from + 8 ^ n → P v ≡ shows n tree v) → Feeds D P from (from + 8 ^ n) e m
 
 -- the whole text: number 10, or the good list of its voxels is put over o, as far as there is room, and its leaves are counted
 abbrev pub ReadTextOf : ℕ → List ℕ → List ℕ → List ℕ → Answer → Type 0

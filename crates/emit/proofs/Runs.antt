@@ -149,6 +149,14 @@ module _ (D : ℕ) (P : ℕ → Bool) where
     emits = λ o e. emit_white D P o out from to r white e;
   }
 
+  -- a black piece goes on with a pending run that ends where it begins
+  pub fed_black : (from to : ℕ) (out : List ℕ) (r : Runs) → r.to ≡ from → from < to → to ≤ 8 ^ D → ((v : ℕ) → from ≤ v → v < to → P v ≡ true) → Ready D r from
+      → Fed D P from to out r out (record { from = r.from; to = to; at = r.at })
+  fed_black from to out r e a b full h = record {
+    ready = record { run = omega (arith, h.run); past = omega arith; few = h.few; root = b };
+    emits = λ o x. emit_black D P o out from to r.from r.at full (subst (λ (y : ℕ). Emitted D P o out from (record { from = r.from; to = y; at = r.at })) e x);
+  }
+
   -- the same end by another name
   pub fed_to : {from to to' : ℕ} {out out' : List ℕ} {r s : Runs} → to ≡ to' → Fed D P from to out r out' s → Fed D P from to' out r out' s
   fed_to {from} {to} {to'} {out} {out'} {r} {s} e x = subst (λ (y : ℕ). Fed D P from y out r out' s) e x
@@ -175,3 +183,11 @@ module _ (D : ℕ) (P : ℕ → Bool) where
   -- a writer of all voxels
   pub fed_all : (o out : List ℕ) (r : Runs) → Fed D P 0 (8 ^ D) o (fresh 0 0) out r → Emitted D P o out (8 ^ D) r
   fed_all o out r x = x.emits o (emit_none D P o)
+
+-- the end of all writers, over the buffer o that was lent: what `finish` says at the emitter's depth d, which is D
+pub finished : {D d : ℕ} {P : ℕ → Bool} {o lent mid end out : List ℕ} {r s : Runs} {n : ℕ} → lent ≡ o → r ≡ fresh 0 0 → Fed D P 0 (8 ^ D) lent r mid s → d ≡ D
+    → ((Q : ℕ → Bool) (q : List ℕ) → Emitted d Q q mid (8 ^ d) s → Result d Q q end n) → out ≡ end → Result D P o out n
+finished {D} {d} {P} {o} {lent} {mid} {end} {out} {r} {s} {n} codes begun x depth ends last =
+    let all : Fed D P 0 (8 ^ D) lent (fresh 0 0) mid s = rw begun at x in
+    let told : Emitted D P lent mid (8 ^ D) s → Result D P lent end n = rw depth at (ends P lent) in
+    rw (last, ← codes) (told (fed_all D P lent mid s all))

@@ -6,6 +6,7 @@ use Rattle.cells.specs.Answer.{deepest}
 use Rattle.records.specs.Inner.{White}
 use Rattle.records.specs.Record.{black, Ordered, Good}
 use Rattle.emit.specs.declared.inner.Runs.{Runs}
+use Rattle.emit.specs.declared.inner.Emitter.{Emitter}
 
 -- w is the span of the biggest cell that starts at p and ends at or before `to`
 pub record Fit (p to w : ℕ) : Type 0 where
@@ -55,6 +56,10 @@ pub record Emitted (D : ℕ) (P : ℕ → Bool) (o out : List ℕ) (pos : ℕ) (
 pub record Fed (D : ℕ) (P : ℕ → Bool) (from to : ℕ) (out : List ℕ) (r : Runs) (out' : List ℕ) (s : Runs) : Type 0 where
   pub ready : Ready D s to
   pub emits : (o : List ℕ) → Emitted D P o out from r → Emitted D P o out' to s
+
+-- such a writer takes the emitter m to n
+abbrev pub Feeds : ℕ → (ℕ → Bool) → ℕ → ℕ → Emitter → Emitter → Type 0
+Feeds D P from to m n = Fed D P from to m.out.now m.runs n.out.now n.runs
 
 -- the end: the good list of the voxels of P is put over o, and n is its length
 pub record Result (D : ℕ) (P : ℕ → Bool) (o out : List ℕ) (n : ℕ) : Type 0 where

@@ -12,7 +12,7 @@ use crate::DEEPEST_PLAIN;
 use crate::inner::bits::{Bits, bytes_for, mark};
 use cells::Refusal;
 use cells::inner::{first, pow8};
-use emit::inner::{Runs, finish, push};
+use emit::inner::Emitter;
 use records::inner::{judged, last_reaches};
 
 // How many leaves start at voxel v or before it, where `at` start before it.
@@ -59,11 +59,11 @@ fn gather(bits: Bits<'_>, out: &mut [u32]) -> usize
     ensures { Result bits.entry.depth (black_in bits.entry.depth bits.entry.bytes.now) out.old out.new result }
 {
     let full = pow8(bits.depth);
-    let mut r = Runs::default();
+    let mut made = Emitter::new(bits.depth, out);
     for v in 0..full {
-        r = push(bits.depth, r, bits.is_black(v), v, v + 1, out);
+        made.push(bits.is_black(v), v, v + 1);
     }
-    finish(bits.depth, r, out)
+    made.finish()
 }
 
 // Bits as the good list of their voxels, and its number of leaves: refused for the depth, with the bytes that the bits need, and with the leaves needed; `out`

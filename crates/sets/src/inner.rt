@@ -12,7 +12,7 @@ ghost use Rattle.sets.specs.Inner.{chosen, both, Behind, Points, Passing, Steady
 use crate::Op;
 use cells::Refusal;
 use cells::inner::{pow8, width};
-use emit::inner::{Runs, finish, push};
+use emit::inner::Emitter;
 
 // A leaf of a list: its least voxel number and the one after its last, and the leaves after it. Past the last leaf both numbers are the root's end.
 #[derive(Clone, Copy)]
@@ -95,7 +95,7 @@ fn sweep(op: Op, depth: u32, a: &[u32], b: &[u32], out: &mut [u32]) -> usize
     ensures { Result depth (both op depth a.now b.now) out.old out.new result }
 {
     let full = pow8(depth);
-    let mut r = Runs::default();
+    let mut made = Emitter::new(depth, out);
     let mut x = load(depth, a);
     let mut y = load(depth, b);
     let mut v = x.from.min(y.from);
@@ -103,12 +103,12 @@ fn sweep(op: Op, depth: u32, a: &[u32], b: &[u32], out: &mut [u32]) -> usize
         let s = look(x, v);
         let t = look(y, v);
         let next = s.until.min(t.until);
-        r = push(depth, r, choose(op, s.black, t.black), v, next, out);
+        made.push(choose(op, s.black, t.black), v, next);
         x = pass(depth, x, next);
         y = pass(depth, y, next);
         v = next.max(x.from.min(y.from));
     }
-    finish(depth, r, out)
+    made.finish()
 }
 
 // The good list of the voxels that op takes, at the front of `out`; where it does not fit, `out` stays as it is.

@@ -5,7 +5,7 @@ use mathlib.Core.Bool.{Bool, true, false}
 use mathlib.Core.Logic.{⊎_elim}
 use Prim.Native.Nat.{ℕ, ◌+◌, ◌-◌, ◌*◌, ◌^◌, ◌<◌, ◌≤◌}
 use native.Mathlib.Omega.{arith}
-use lib.ListN.{length, get_or}
+use lib.ListN.{get_or}
 use Rattle.cells.specs.Cell.{start, span, proper, end}
 use Rattle.cells.proofs.Power.{le_or_lt}
 use Rattle.cells.proofs.Cells.{span_pos}
@@ -13,7 +13,8 @@ use Rattle.records.specs.Record.{black}
 use Rattle.records.proofs.Lists.{holds_between, before_cell, after_cell}
 use Rattle.records.proofs.Fault.{in_order}
 use Rattle.emit.specs.declared.inner.Runs.{Runs}
-use Rattle.emit.specs.Inner.{Ready, Next, Fed}
+use Rattle.emit.specs.declared.inner.Emitter.{Emitter}
+use Rattle.emit.specs.Inner.{Ready, Next, Feeds}
 use Rattle.emit.proofs.Runs.{fed_none, fed_white, fed_then}
 use Rattle.records.specs.Slot.{OfCell, SlotTint}
 use Rattle.records.specs.declared.inner.slots.Slot.{Slot}
@@ -24,8 +25,8 @@ use Rattle.records.proofs.SlotLaws.{slot_proper, slot_low, slot_high, slot_off, 
 abbrev pub From : ℕ → List ℕ → ℕ → ℕ → ℕ → (ℕ → Bool) → Type 0
 From D l base from w P = (v : ℕ) → from ≤ v → v < from + w → P v ≡ black D l (base + (v - from))
 
--- the leaves of slot s before place i are copied, up to voxel p
-pub record Copied (D : ℕ) (l : List ℕ) (n base from : ℕ) (s : Slot) (out₀ : List ℕ) (r₀ : Runs) (out : List ℕ) (r : Runs) (i : ℕ) : Type 0 where
+-- the leaves of slot s before place i are copied, up to voxel p: they took the emitter o to m
+pub record Copied (D : ℕ) (l : List ℕ) (n base from : ℕ) (s : Slot) (o m : Emitter) (i : ℕ) : Type 0 where
   pub p : ℕ
   pub low : from ≤ p
   pub top : p ≤ from + 8 ^ n
@@ -33,9 +34,10 @@ pub record Copied (D : ℕ) (l : List ℕ) (n base from : ℕ) (s : Slot) (out�
   pub last : i ≤ s.hi
   pub before : (j : ℕ) → s.lo ≤ j → j < i → end D (get_or l j 0) ≤ base + (p - from)
   pub next : (j : ℕ) → i ≤ j → j < s.hi → base + (p - from) ≤ start D (get_or l j 0)
-  pub ready : Ready D r p
-  pub fed : (P : ℕ → Bool) → From D l base from (8 ^ n) P → Fed D P from p out₀ r₀ out r
-  pub size : length out ≡ length out₀
+  pub ready : Ready D m.runs p
+  pub fed : (P : ℕ → Bool) → From D l base from (8 ^ n) P → Feeds D P from p o m
+  pub same : m.out.ghost_name ≡ o.out.ghost_name
+  pub depth : m.depth ≡ o.depth
 
 -- leaf c comes next: it lies in the source cell, and its piece in the target cell
 pub record Comes (D base from c : ℕ) (r : Runs) : Type 0 where
@@ -43,8 +45,8 @@ pub record Comes (D base from c : ℕ) (r : Runs) : Type 0 where
   pub low : base ≤ start D c
   pub piece : Next D r (from + (start D c - base)) (from + (start D c - base) + span D c)
 
-module _ {D n base from : ℕ} {l : List ℕ} {s : Slot} {out₀ : List ℕ} {r₀ : Runs} (x : OfCell D l n s) (mixed : SlotTint D l (8 ^ n) s Mixed) (at : base ≡ x.cell * 8 ^ n) (root : from + 8 ^ n ≤ 8 ^ D) where
-  pub copied_none : Ready D r₀ from → Copied D l n base from s out₀ r₀ out₀ r₀ s.lo
+module _ {D n base from : ℕ} {l : List ℕ} {s : Slot} {o : Emitter} (x : OfCell D l n s) (mixed : SlotTint D l (8 ^ n) s Mixed) (at : base ≡ x.cell * 8 ^ n) (root : from + 8 ^ n ≤ 8 ^ D) where
+  pub copied_none : Ready D o.runs from → Copied D l n base from s o o s.lo
   copied_none h = record {
     p = from;
     low = omega arith;
@@ -54,11 +56,12 @@ module _ {D n base from : ℕ} {l : List ℕ} {s : Slot} {out₀ : List ℕ} {r�
     before = λ j a b. absurd (omega arith);
     next = λ j a b. omega (arith, slot_low x mixed j a b);
     ready = h;
-    fed = λ P _. fed_none D P from out₀ r₀ h;
-    size = refl;
+    fed = λ P _. fed_none D P from o.out.now o.runs h;
+    same = refl;
+    depth = refl;
   }
 
-  module _ {out : List ℕ} {r : Runs} {i : ℕ} (k : Copied D l n base from s out₀ r₀ out r i) where
+  module _ {m : Emitter} {i : ℕ} (k : Copied D l n base from s o m i) where
     -- white from p up to where the next leaf is copied to, or the end
     gap : (P : ℕ → Bool) → From D l base from (8 ^ n) P → (v : ℕ) → v ≤ from + 8 ^ n → ((j : ℕ) → i ≤ j → j < s.hi → base + (v - from) ≤ start D (get_or l j 0)) → (u : ℕ) → k.p ≤ u → u < v → P u ≡ false
     gap P h v g after u a b =
@@ -95,7 +98,7 @@ module _ {D n base from : ℕ} {l : List ℕ} {s : Slot} {out₀ : List ℕ} {r�
           (λ (e : i < j). omega (arith, in_order D 0 l x.source.ordered i j e (omega (arith, x.part.leaves.within))))
           (le_or_lt j i)
 
-      pub copied_leaf : Comes D base from leaf r
+      pub copied_leaf : Comes D base from leaf m.runs
       copied_leaf = record {
         is_proper = slot_proper x mixed i here;
         low = low;
@@ -108,10 +111,10 @@ module _ {D n base from : ℕ} {l : List ℕ} {s : Slot} {out₀ : List ℕ} {r�
       }
 
       -- the leaf is pushed: u is where it starts and y its span, as the code has them
-      pub copied_next : {out' : List ℕ} {t : Runs} (u y : ℕ) → u ≡ start D leaf → y ≡ span D leaf → length out' ≡ length out
-          → ((P : ℕ → Bool) → ((v : ℕ) → from + (u - base) ≤ v → v < from + (u - base) + y → P v ≡ true) → Fed D P (from + (u - base)) (from + (u - base) + y) out r out' t)
-          → Copied D l n base from s out₀ r₀ out' t (i + 1)
-      copied_next {out'} {t} u y eu ey same push = record {
+      pub copied_next : {m' : Emitter} (u y : ℕ) → u ≡ start D leaf → y ≡ span D leaf → m'.out.ghost_name ≡ m.out.ghost_name → m'.depth ≡ m.depth
+          → ((P : ℕ → Bool) → ((v : ℕ) → from + (u - base) ≤ v → v < from + (u - base) + y → P v ≡ true) → Feeds D P (from + (u - base)) (from + (u - base) + y) m m')
+          → Copied D l n base from s o m' (i + 1)
+      copied_next {m'} u y eu ey same depth push = record {
         p = place + span D leaf;
         low = omega arith;
         top = top;
@@ -125,12 +128,13 @@ module _ {D n base from : ℕ} {l : List ℕ} {s : Slot} {out₀ : List ℕ} {r�
         next = λ j a b. omega (arith, in_order D 0 l x.source.ordered i j (omega arith) (omega (arith, x.part.leaves.within)), low);
         ready = (pushed (λ v. true) (λ v a b. refl)).ready;
         fed = λ P h.
-            let white = fed_white D P k.p place out r past (omega (arith, top, root)) (gap P h place (omega (arith, top)) (λ j a b. omega (arith, later j a b, low))) k.ready in
+            let white = fed_white D P k.p place m.out.now m.runs past (omega (arith, top, root)) (gap P h place (omega (arith, top)) (λ j a b. omega (arith, later j a b, low))) k.ready in
             fed_then D P (fed_then D P (k.fed P h) white) (pushed P (black_leaf P h));
-        size = same ∙ k.size;
+        same = same ∙ k.same;
+        depth = depth ∙ k.depth;
       }
         where
-          pushed : (P : ℕ → Bool) → ((v : ℕ) → place ≤ v → v < place + span D leaf → P v ≡ true) → Fed D P place (place + span D leaf) out r out' t
+          pushed : (P : ℕ → Bool) → ((v : ℕ) → place ≤ v → v < place + span D leaf → P v ≡ true) → Feeds D P place (place + span D leaf) m m'
           pushed = rw (eu, ey) at push
 
           black_leaf : (P : ℕ → Bool) → From D l base from (8 ^ n) P → (v : ℕ) → place ≤ v → v < place + span D leaf → P v ≡ true
@@ -138,7 +142,7 @@ module _ {D n base from : ℕ} {l : List ℕ} {s : Slot} {out₀ : List ℕ} {r�
               h v (omega arith) (omega (arith, top))
               ∙ black_at D l i (base + (v - from)) (omega (arith, x.part.leaves.within)) (holds_between D leaf (base + (v - from)) (omega (arith, low)) (omega (arith, low)))
 
-    pub copied_all : s.hi ≤ i → (P : ℕ → Bool) → From D l base from (8 ^ n) P → Fed D P from (from + 8 ^ n) out₀ r₀ out r
+    pub copied_all : s.hi ≤ i → (P : ℕ → Bool) → From D l base from (8 ^ n) P → Feeds D P from (from + 8 ^ n) o m
     copied_all g P h =
         fed_then D P (k.fed P h)
-        (fed_white D P k.p (from + 8 ^ n) out r k.top root (gap P h (from + 8 ^ n) (omega arith) (λ j a b. absurd (omega arith))) k.ready)
+        (fed_white D P k.p (from + 8 ^ n) m.out.now m.runs k.top root (gap P h (from + 8 ^ n) (omega arith) (λ j a b. absurd (omega arith))) k.ready)

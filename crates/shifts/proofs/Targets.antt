@@ -10,7 +10,7 @@ use lib.ListN.{length}
 use Rattle.cells.proofs.Power.{pow8_pos, pow8_suc}
 use Rattle.records.specs.Record.{black}
 use Rattle.emit.specs.Inner.{Ready, fresh}
-use Rattle.emit.specs.declared.inner.Runs.{Runs}
+use Rattle.emit.specs.declared.inner.Emitter.{Emitter}
 use Rattle.emit.proofs.Runs.{ready_none}
 use Rattle.shifts.specs.LabelSums.{sum_label, carry_label, Uses}
 use Rattle.shifts.specs.Shift.{shift, cell_of, need, shifted}
@@ -26,7 +26,7 @@ use Rattle.records.proofs.SlotLaws.{slot_colour, eight_of, each_of_eight, whole_
 
 -- ---- a target cell
 
-module _ {D w : ℕ} {l : List ℕ} {c : Target} {t : List Slot} {r : Runs} (x : Aimed D l w c t r) where
+module _ {D w : ℕ} {l : List ℕ} {c : Target} {t : List Slot} {e : Emitter} (x : Aimed D l w c t e) where
   abbrev source : ℕ → ℕ
   source q = cell_of D w c.k x.cell q
 
@@ -61,8 +61,8 @@ module _ {D w : ℕ} {l : List ℕ} {c : Target} {t : List Slot} {r : Runs} (x :
       colour v lo hi ∙ slot_colour (x.slots q lt u) x.source b (rw (← wide, ← e) (all b e q lt u)) s (omega arith) (omega arith)
 
   -- one source cell, copied as it is
-  pub aimed_copying : Copying D l c (slot_at t 0) r
-  aimed_copying = record { held = aimed_slots 0 (omega arith) (uses_none c.axes); root = x.root; ready = x.ready }
+  pub aimed_copying : Copying D l c (slot_at t 0) e
+  aimed_copying = record { held = aimed_slots 0 (omega arith) (uses_none c.axes); root = x.root; depth = x.depth; ready = x.ready }
 
   pub aimed_copies : c.axes ≡ 0 → Copies D l (source 0) c (shifted D l w)
   aimed_copies none v lo hi =
@@ -85,25 +85,26 @@ module _ {D w : ℕ} {l : List ℕ} {c : Target} {t : List Slot} {r : Runs} (x :
     pub aimed_above : OfCells D l (suc j) c.axes t
     aimed_above = rw level aimed_slots
 
-    pub aimed_divides : (f : ℕ) → f ≡ need j w → (p : List (List Slot)) → ((S : ℕ → ℕ) → Slots D l (suc j) c.axes S t → Divided D l j c.axes S p) → Divides D l w (record { from = c.from; k = j; axes = f }) p r
-    aimed_divides f e p d =
+    pub aimed_divides : (f : ℕ) → f ≡ need j w → (p : List (List Slot)) → ((S : ℕ → ℕ) → Slots D l (suc j) c.axes S t → Divided D l j c.axes S p) → Divides D l w (record { from = c.from; k = j; axes = f }) p e
+    aimed_divides f axes p d =
         let parts : Divided D l j c.axes (cell_of D w (suc j) x.cell) p = d (cell_of D w (suc j) x.cell) (rw level x.slots) in
         record {
           source = x.source;
           level = omega (arith, x.level);
           root = rw level x.root;
-          axes = e;
+          axes = axes;
           cell = x.cell;
           place = rw level x.place;
           parts = rw (level, ← x.axes) (rw level at parts);
+          depth = x.depth;
           ready = x.ready;
         }
 
 -- the slots of child m, picked from the parts of its parent's, h the shift's label as the code has it
-pub child_aimed : {D w : ℕ} {l : List ℕ} {c : Target} {p : List (List Slot)} {r s : Runs} {t : List Slot} (x : Divides D l w c p r) (h m v : ℕ) → h ≡ w / 8 ^ c.k % 8 → m < 8 → v ≡ c.from + m * 8 ^ c.k
-    → ((q : ℕ) → q < 8 → Uses c.axes q → slot_at t q ≡ part_at p (carry_label h m q) (sum_label h m q)) → Ready D s v → Aimed D l w (record { from = v; k = c.k; axes = c.axes }) t s
+pub child_aimed : {D w : ℕ} {l : List ℕ} {c : Target} {p : List (List Slot)} {e n : Emitter} {t : List Slot} (x : Divides D l w c p e) (h m v : ℕ) → h ≡ w / 8 ^ c.k % 8 → m < 8 → v ≡ c.from + m * 8 ^ c.k
+    → ((q : ℕ) → q < 8 → Uses c.axes q → slot_at t q ≡ part_at p (carry_label h m q) (sum_label h m q)) → n.depth ≡ e.depth → Ready D n.runs v → Aimed D l w (record { from = v; k = c.k; axes = c.axes }) t n
 unfolding need
-child_aimed {D} {w} {l} {c} {p} {r} {s} {t} x h m v eh child place pick ready = record {
+child_aimed {D} {w} {l} {c} {p} {e} {n} {t} x h m v eh child place pick depth ready = record {
   source = x.source;
   level = omega (arith, x.level);
   root = omega (arith, child_within m (8 ^ c.k) child, pow8_suc c.k, x.root);
@@ -111,6 +112,7 @@ child_aimed {D} {w} {l} {c} {p} {r} {s} {t} x h m v eh child place pick ready = 
   cell = 8 * x.cell + m;
   place = omega (arith, child_edge x.cell m c.k, x.place);
   slots = slots;
+  depth = depth ∙ x.depth;
   ready = ready;
 }
   where
@@ -125,14 +127,15 @@ child_aimed {D} {w} {l} {c} {p} {r} {s} {t} x h m v eh child place pick ready = 
 
 -- ---- the root: each slot is the whole list
 
-pub root_aimed : {D f w : ℕ} {l : List ℕ} → Source D l → f ≡ need D w → Aimed D l w (record { from = 0; k = D; axes = f }) (eight_of (record { lo = 0; hi = length l })) (fresh 0 0)
-root_aimed {D} {f} {w} {l} o e = record {
+pub root_aimed : {D f w : ℕ} {l : List ℕ} {e : Emitter} → Source D l → f ≡ need D w → e.depth ≡ D → e.runs ≡ fresh 0 0 → Aimed D l w (record { from = 0; k = D; axes = f }) (eight_of (record { lo = 0; hi = length l })) e
+root_aimed {D} {f} {w} {l} o axes depth begun = record {
   source = o;
   level = omega arith;
   root = omega arith;
-  axes = e;
+  axes = axes;
   cell = 0;
   place = sym (zero-mul (8 ^ D));
   slots = λ q h u. subst (Of D l D (cell_of D w D 0 q)) (sym (each_of_eight _ q h)) (rw (root_cell D w q) (whole_list o));
-  ready = ready_none;
+  depth = depth;
+  ready = rw begun ready_none;
 }

@@ -2,7 +2,7 @@
 use Rattle.std.specs.Prelude.{◌≡◌, List, [], Bool, ℕ, suc, ◌+◌, ◌-◌, ◌*◌, ◌^◌, ◌<◌, ◌≤◌, get_or}
 use Rattle.records.specs.Record.{black}
 use Rattle.emit.specs.Inner.{Ready}
-use Rattle.emit.specs.declared.inner.Runs.{Runs}
+use Rattle.emit.specs.declared.inner.Emitter.{Emitter}
 use Rattle.shifts.specs.LabelSums.{Uses}
 use Rattle.shifts.specs.Shift.{need, cell_of}
 use Rattle.records.specs.Slot.{Source, Of, OfCell, SlotTint, tint_of, slot_at}
@@ -35,17 +35,18 @@ SlotsTint D l w f t r = (b : Bool) → r ≡ tint_of b → (q : ℕ) → q < 8 �
 -- ---- what the descent asks
 
 -- the target cell c comes from one source cell, whose leaves slot s has; the emitter is ready for it
-pub record Copying (D : ℕ) (l : List ℕ) (c : Target) (s : Slot) (r : Runs) : Type 0 where
+pub record Copying (D : ℕ) (l : List ℕ) (c : Target) (s : Slot) (e : Emitter) : Type 0 where
   pub held : OfCell D l c.k s
   pub root : c.from + 8 ^ c.k ≤ 8 ^ D
-  pub ready : Ready D r c.from
+  pub depth : e.depth ≡ D
+  pub ready : Ready D e.runs c.from
 
 -- on the voxels of c, P is what l has on those of the source cell of number b
 abbrev pub Copies : ℕ → List ℕ → ℕ → Target → (ℕ → Bool) → Type 0
 Copies D l b c P = (v : ℕ) → c.from ≤ v → v < c.from + 8 ^ c.k → P v ≡ black D l (b * 8 ^ c.k + (v - c.from))
 
 -- t are the slots of the target cell c for the shift w; the emitter is ready for it
-pub record Aimed (D : ℕ) (l : List ℕ) (w : ℕ) (c : Target) (t : List Slot) (r : Runs) : Type 0 where
+pub record Aimed (D : ℕ) (l : List ℕ) (w : ℕ) (c : Target) (t : List Slot) (e : Emitter) : Type 0 where
   pub source : Source D l
   pub level : c.k ≤ D
   pub root : c.from + 8 ^ c.k ≤ 8 ^ D
@@ -53,10 +54,11 @@ pub record Aimed (D : ℕ) (l : List ℕ) (w : ℕ) (c : Target) (t : List Slot)
   pub cell : ℕ
   pub place : c.from ≡ cell * 8 ^ c.k
   pub slots : Slots D l c.k c.axes (cell_of D w c.k cell) t
-  pub ready : Ready D r c.from
+  pub depth : e.depth ≡ D
+  pub ready : Ready D e.runs c.from
 
 -- c is the first child of a target cell, whose slots have the parts p
-pub record Divides (D : ℕ) (l : List ℕ) (w : ℕ) (c : Target) (p : List (List Slot)) (r : Runs) : Type 0 where
+pub record Divides (D : ℕ) (l : List ℕ) (w : ℕ) (c : Target) (p : List (List Slot)) (e : Emitter) : Type 0 where
   pub source : Source D l
   pub level : c.k < D
   pub root : c.from + 8 ^ suc c.k ≤ 8 ^ D
@@ -64,4 +66,5 @@ pub record Divides (D : ℕ) (l : List ℕ) (w : ℕ) (c : Target) (p : List (Li
   pub cell : ℕ
   pub place : c.from ≡ cell * 8 ^ suc c.k
   pub parts : Divided D l c.k (need (suc c.k) w) (cell_of D w (suc c.k) cell) p
-  pub ready : Ready D r c.from
+  pub depth : e.depth ≡ D
+  pub ready : Ready D e.runs c.from

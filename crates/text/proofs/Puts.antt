@@ -20,7 +20,7 @@ put_append {o} {at} {l} {o₁} {n₁} {m} p q =
       place = q.place ∙ omega (arith, p.place, length-append l m);
     }
 
--- a page of a buffer's bytes, at their front, and what the buffer is after the text
+-- a text put to a page that was the front of a buffer, told of the buffer: its bytes at first and at last, and the place after the text
 pub put_front : {o : List ℕ} {at : ℕ} {l after : List ℕ} {r : ℕ} → Put o at l after r → {first last : List ℕ} {place : ℕ} → o ≡ first → at ≡ 0 → last ≡ after → place ≡ r
     → Put first 0 l last place
 put_front {l = l} p e z f g = record { bytes = f ∙ p.bytes ∙ ap₂ (λ (x : List ℕ) (n : ℕ). sets x n l) e z; place = omega (arith, p.place) }

@@ -1,5 +1,5 @@
 -- What the slot of a target cell's source says of its voxels, and how the children's slots come from it. Assumes nothing.
-use mathlib.Core.Path.{◌≡◌, sym, subst}
+use mathlib.Core.Path.{◌≡◌, sym, ◌∙◌, subst}
 use mathlib.Core.Bool.{Bool}
 use mathlib.Core.List.{List}
 use Prim.Native.Nat.{ℕ, suc, ◌+◌, ◌-◌, ◌*◌, ◌^◌, ◌<◌, ◌≤◌}
@@ -13,7 +13,7 @@ use Rattle.records.specs.declared.inner.slots.Tint.{Tint}
 use Rattle.records.proofs.Edges.{child_within, child_edge}
 use Rattle.records.proofs.SlotLaws.{slot_colour, whole_list}
 use Rattle.emit.specs.Inner.{Ready, fresh}
-use Rattle.emit.specs.declared.inner.Runs.{Runs}
+use Rattle.emit.specs.declared.inner.Emitter.{Emitter}
 use Rattle.emit.proofs.Runs.{ready_none}
 use Rattle.turns.specs.Inner.{source_label, relabel, source_of, turned, Turning, KidsTurning}
 use Rattle.turns.specs.declared.inner.Target.{Target}
@@ -22,7 +22,7 @@ use Rattle.turns.proofs.Relabels.{relabel_step, relabel_lt, relabel_within}
 
 -- ---- a target cell
 
-module _ {D : ℕ} {l : List ℕ} {c : Target} {s : Slot} {r : Runs} (x : Turning D l c s r) where
+module _ {D : ℕ} {l : List ℕ} {c : Target} {s : Slot} {e : Emitter} (x : Turning D l c s e) where
   -- its source
   abbrev source : ℕ
   source = source_of c.turns (D - c.k) x.cell
@@ -47,7 +47,7 @@ module _ {D : ℕ} {l : List ℕ} {c : Target} {s : Slot} {r : Runs} (x : Turnin
 
   -- its children, with j levels below each
   pub turning_children : (j : ℕ) → suc j ≡ c.k → (p : List Slot) → ((b : ℕ) → Of D l (suc j) b s → (m : ℕ) → m < 8 → Of D l j (8 * b + m) (slot_at p m))
-      → KidsTurning D l (record { from = c.from; k = j; turns = c.turns }) p r
+      → KidsTurning D l (record { from = c.from; k = j; turns = c.turns }) p e
   turning_children j level p cut = record {
     source = x.source;
     level = omega (arith, x.level);
@@ -55,19 +55,21 @@ module _ {D : ℕ} {l : List ℕ} {c : Target} {s : Slot} {r : Runs} (x : Turnin
     cell = x.cell;
     place = rw level x.place;
     parts = cut (source_of c.turns (D - suc j) x.cell) (rw level x.slot);
+    depth = x.depth;
     ready = x.ready;
   }
 
 -- child m, with the part whose label a is turned into m
-pub child_turning : {D : ℕ} {l : List ℕ} {c : Target} {p : List Slot} {r s : Runs} (x : KidsTurning D l c p r) (m a v : ℕ) → m < 8 → a ≡ source_label c.turns m → v ≡ c.from + m * 8 ^ c.k → Ready D s v
-    → Turning D l (record { from = v; k = c.k; turns = c.turns }) (slot_at p a) s
-child_turning {D} {l} {c} {p} x m a v h label place ready = record {
+pub child_turning : {D : ℕ} {l : List ℕ} {c : Target} {p : List Slot} {e n : Emitter} (x : KidsTurning D l c p e) (m a v : ℕ) → m < 8 → a ≡ source_label c.turns m → v ≡ c.from + m * 8 ^ c.k → n.depth ≡ e.depth → Ready D n.runs v
+    → Turning D l (record { from = v; k = c.k; turns = c.turns }) (slot_at p a) n
+child_turning {D} {l} {c} {p} x m a v h label place depth ready = record {
   source = x.source;
   level = omega (arith, x.level);
   root = omega (arith, child_within m (8 ^ c.k) h, pow8_suc c.k, x.root);
   cell = 8 * x.cell + m;
   place = omega (arith, child_edge x.cell m c.k, x.place);
   slot = rw (same, label) (x.parts (source_label c.turns m) (source_lt c.turns m h));
+  depth = depth ∙ x.depth;
   ready = ready;
 }
   where
@@ -78,14 +80,15 @@ child_turning {D} {l} {c} {p} x m a v h label place ready = record {
 
 -- ---- the root: the whole list
 
-pub root_turning : {D n : ℕ} {l : List ℕ} → Source D l → Turning D l (record { from = 0; k = D; turns = n }) (record { lo = 0; hi = length l }) (fresh 0 0)
+pub root_turning : {D n : ℕ} {l : List ℕ} {m : Emitter} → Source D l → m.depth ≡ D → m.runs ≡ fresh 0 0 → Turning D l (record { from = 0; k = D; turns = n }) (record { lo = 0; hi = length l }) m
 unfolding relabel
-root_turning {D} {n} {l} o = record {
+root_turning {D} {n} {l} o depth begun = record {
   source = o;
   level = omega arith;
   root = omega arith;
   cell = 0;
   place = sym (zero-mul (8 ^ D));
   slot = let e : D - D ≡ 0 = omega arith in rw e (whole_list o);
-  ready = ready_none;
+  depth = depth;
+  ready = rw begun ready_none;
 }

@@ -4,7 +4,7 @@ use Rattle.records.specs.Record.{black}
 use Rattle.records.specs.Slot.{Source, Of, slot_at}
 use Rattle.records.specs.declared.inner.slots.Slot.{Slot}
 use Rattle.emit.specs.Inner.{Ready}
-use Rattle.emit.specs.declared.inner.Runs.{Runs}
+use Rattle.emit.specs.declared.inner.Emitter.{Emitter}
 use Rattle.turns.specs.declared.inner.Target.{Target}
 
 -- the label that has the halves x, y and z, each 0 or 1
@@ -34,21 +34,23 @@ abbrev pub turned : ℕ → List ℕ → ℕ → ℕ → Bool
 turned D l n v = black D l (source_of n D v)
 
 -- slot s has the leaves of the source cell of the target cell c; the emitter is ready for it
-pub record Turning (D : ℕ) (l : List ℕ) (c : Target) (s : Slot) (r : Runs) : Type 0 where
+pub record Turning (D : ℕ) (l : List ℕ) (c : Target) (s : Slot) (m : Emitter) : Type 0 where
   pub source : Source D l
   pub level : c.k ≤ D
   pub root : c.from + 8 ^ c.k ≤ 8 ^ D
   pub cell : ℕ
   pub place : c.from ≡ cell * 8 ^ c.k
   pub slot : Of D l c.k (source_of c.turns (D - c.k) cell) s
-  pub ready : Ready D r c.from
+  pub depth : m.depth ≡ D
+  pub ready : Ready D m.runs c.from
 
 -- c is the first child of a target cell, and the slots p have the leaves of the children of its source cell
-pub record KidsTurning (D : ℕ) (l : List ℕ) (c : Target) (p : List Slot) (r : Runs) : Type 0 where
+pub record KidsTurning (D : ℕ) (l : List ℕ) (c : Target) (p : List Slot) (m : Emitter) : Type 0 where
   pub source : Source D l
   pub level : c.k < D
   pub root : c.from + 8 ^ suc c.k ≤ 8 ^ D
   pub cell : ℕ
   pub place : c.from ≡ cell * 8 ^ suc c.k
-  pub parts : (m : ℕ) → m < 8 → Of D l c.k (8 * source_of c.turns (D - suc c.k) cell + m) (slot_at p m)
-  pub ready : Ready D r c.from
+  pub parts : (i : ℕ) → i < 8 → Of D l c.k (8 * source_of c.turns (D - suc c.k) cell + i) (slot_at p i)
+  pub depth : m.depth ≡ D
+  pub ready : Ready D m.runs c.from

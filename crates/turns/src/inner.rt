@@ -1,11 +1,11 @@
 // INNER: the descent through target cells, each with the leaves of the one source cell that turns into it.
 ghost use Rattle.std.specs.Prelude.{◌≡◌, suc, ◌+◌, ◌<◌, ◌^◌};
-ghost use Rattle.emit.specs.Inner.{Fed, Result};
+ghost use Rattle.emit.specs.Inner.{Feeds, Result};
 ghost use Rattle.records.specs.Slot.{Source};
 ghost use Rattle.turns.specs.Inner.{label_of, source_label, turned, Turning, KidsTurning};
 
 use cells::inner::pow8;
-use emit::inner::{Runs, finish, push};
+use emit::inner::Emitter;
 use records::inner::slots::{Slot, Tint, cut_slot, tint_slot};
 
 // A target cell: its least voxel, the levels below it, and how many turns it comes by.
@@ -42,48 +42,43 @@ fn source_label(turns: u32, m: u32) -> u32
 
 // The target cell c, slot s its source's leaves: none, one that has all of it, or smaller ones.
 #[cycle(turn_cell_turn_children)]
-pub fn turn_cell(depth: u32, l: &[u32], c: Target, s: Slot, r: Runs, out: &mut [u32]) -> Runs
-    requires { Turning depth l.now c s r }
-    ensures { Fed depth (turned depth l.now c.turns) c.from (c.from + 8 ^ c.k) out.old r out.new result }
+pub fn turn_cell(depth: u32, l: &[u32], c: Target, s: Slot, made: &mut Emitter<'_>)
+    requires { Turning depth l.now c s made.old }
+    ensures same { made.new.out.ghost_name ≡ made.old.out.ghost_name }
+    ensures depth { made.new.depth ≡ made.old.depth }
+    ensures fed { Feeds depth (turned depth l.now c.turns) c.from (c.from + 8 ^ c.k) made.old made.new }
 {
     let w = pow8(c.k);
     match tint_slot(depth, l, w, s) {
-        Tint::White => r,
-        Tint::Black => push(depth, r, true, c.from, c.from + w, out),
+        Tint::White => {}
+        Tint::Black => made.push(true, c.from, c.from + w),
         Tint::Mixed => {
             let k = c.k - 1;
             let parts = cut_slot(depth, l, k, s);
-            turn_children(depth, l, Target { k, ..c }, parts, r, out)
+            turn_children(depth, l, Target { k, ..c }, parts, made)
         }
     }
 }
 
 // Eight target cells in label order, c the first, with the parts of their parent's slot: each takes the part whose label turns into its own.
 #[cycle(turn_cell_turn_children)]
-pub fn turn_children(
-    depth: u32,
-    l: &[u32],
-    c: Target,
-    parts: [Slot; 8],
-    r: Runs,
-    out: &mut [u32],
-) -> Runs
-    requires { KidsTurning depth l.now c parts r }
-    ensures { Fed depth (turned depth l.now c.turns) c.from (c.from + 8 ^ suc c.k) out.old r out.new result }
+pub fn turn_children(depth: u32, l: &[u32], c: Target, parts: [Slot; 8], made: &mut Emitter<'_>)
+    requires { KidsTurning depth l.now c parts made.old }
+    ensures same { made.new.out.ghost_name ≡ made.old.out.ghost_name }
+    ensures depth { made.new.depth ≡ made.old.depth }
+    ensures fed { Feeds depth (turned depth l.now c.turns) c.from (c.from + 8 ^ suc c.k) made.old made.new }
 {
     let span = pow8(c.k);
-    let mut s = r;
     let mut v = c.from;
     for m in 0..8 {
         let child = Target { from: v, ..c };
         let slot = parts[source_label(c.turns, m) as usize];
         // most children are white: they take no call
         if slot.lo < slot.hi {
-            s = turn_cell(depth, l, child, slot, s, out);
+            turn_cell(depth, l, child, slot, made);
         }
         v += span;
     }
-    s
 }
 
 // The good list of the turned voxels: its length, and its codes in `out`, as far as there is room.
@@ -97,6 +92,7 @@ pub fn turn_root(depth: u32, l: &[u32], turns: u32, out: &mut [u32]) -> usize
         k: depth,
         turns,
     };
-    let s = turn_cell(depth, l, root, all, Runs::default(), out);
-    finish(depth, s, out)
+    let mut made = Emitter::new(depth, out);
+    turn_cell(depth, l, root, all, &mut made);
+    made.finish()
 }

@@ -8,20 +8,13 @@ ghost use Rattle.df.specs.Inner.{byte_of, head_of, HeadAt, InCommon, Ahead, Open
 use crate::inner::Head;
 use cells::Refusal;
 use cells::inner::pow8;
-use emit::inner::{Runs, finish, push};
+use emit::inner::Emitter;
 
-// How far a text is read: the place of the next byte, and the emitter's state.
-#[derive(Clone, Copy, Default)]
-pub struct Reader {
-    pub at: usize,
-    pub runs: Runs,
-}
-
-// A cell that is read: how it begins, and how far the text is read after it.
+// A cell that is read: how it begins, and the place after it.
 #[derive(Clone, Copy)]
 pub struct Cell {
     pub head: Head,
-    pub after: Reader,
+    pub after: usize,
 }
 
 // How the cell at a place begins: there is none at a byte that is no head, nor past the end.
@@ -41,62 +34,67 @@ fn shared(alike: Option<Head>, head: Head) -> Head
     }
 }
 
-// The cell with k levels left whose least voxel is `from`, from the next byte on.
+// The cell with k levels left whose least voxel is `from`, from place `at` on.
 #[cycle(read_cell_read_gray)]
 pub fn read_cell(
     depth: u32,
     text: &[u8],
     k: u32,
     from: u32,
-    r: Reader,
-    out: &mut [u32],
+    at: usize,
+    made: &mut Emitter<'_>,
 ) -> Result<Cell, usize>
-    requires { Ahead depth text.now k from r }
-    ensures { MatchResult result (CellRead depth text.now k from out.old r out.new) (Stuck k text.now r.at) }
+    requires { Ahead depth text.now k from at made.old }
+    ensures same { made.new.out.ghost_name ≡ made.old.out.ghost_name }
+    ensures depth { made.new.depth ≡ made.old.depth }
+    ensures read { MatchResult result (CellRead depth text.now k from at made.old made.new) (Stuck k text.now at) }
 {
-    let at = r.at;
     let Some(head) = head_at(text, at) else {
         return Err(at);
     };
-    let runs = match head {
-        Head::White => r.runs,
-        Head::Black => push(depth, r.runs, true, from, from + pow8(k), out),
+    match head {
+        Head::White => {}
+        Head::Black => made.push(true, from, from + pow8(k)),
         Head::Open => {
             if k == 0 {
                 return Err(at);
             }
-            return read_gray(depth, text, k - 1, from, r, out);
+            return read_gray(depth, text, k - 1, from, at, made);
         }
-    };
-    let after = Reader { at: at + 1, runs };
-    Ok(Cell { head, after })
+    }
+    Ok(Cell {
+        head,
+        after: at + 1,
+    })
 }
 
-// A gray cell, whose eight children have k levels left each: where they are eight equal leaves, the last of them is wrong.
+// A gray cell, which the byte at place `at` opens and whose eight children have k levels left each: where they are eight equal leaves, the last of them is wrong.
 #[cycle(read_cell_read_gray)]
 pub fn read_gray(
     depth: u32,
     text: &[u8],
     k: u32,
     from: u32,
-    r: Reader,
-    out: &mut [u32],
+    at: usize,
+    made: &mut Emitter<'_>,
 ) -> Result<Cell, usize>
-    requires { Opens depth text.now k from r }
-    ensures { MatchResult result (CellRead depth text.now (suc k) from out.old r out.new) (Stuck (suc k) text.now r.at) }
+    requires { Opens depth text.now k from at made.old }
+    ensures same { made.new.out.ghost_name ≡ made.old.out.ghost_name }
+    ensures depth { made.new.depth ≡ made.old.depth }
+    ensures read { MatchResult result (CellRead depth text.now (suc k) from at made.old made.new) (Stuck (suc k) text.now at) }
 {
     let span = pow8(k);
-    let mut after = Reader { at: r.at + 1, ..r };
+    let mut after = at + 1;
     let mut v = from;
     let mut alike = None;
     for _m in 0..8u32 {
-        let child = read_cell(depth, text, k, v, after, out)?;
+        let child = read_cell(depth, text, k, v, after, made)?;
         alike = Some(shared(alike, child.head));
         after = child.after;
         v += span;
     }
     if alike != Some(Head::Open) {
-        return Err(after.at - 1);
+        return Err(after - 1);
     }
     Ok(Cell {
         head: Head::Open,
@@ -109,12 +107,13 @@ pub fn read_text(depth: u32, text: &[u8], out: &mut [u32]) -> Result<usize, Refu
     requires { depth ≤ deepest }
     ensures { ReadTextOf depth text.now out.old out.new (answer_of result) }
 {
-    let end = match read_cell(depth, text, depth, 0, Reader::default(), out) {
+    let mut made = Emitter::new(depth, out);
+    let end = match read_cell(depth, text, depth, 0, 0, &mut made) {
         Ok(root) => root.after,
         Err(at) => return Err(Refusal::BadText(at)),
     };
-    if end.at < text.len() {
-        return Err(Refusal::BadText(end.at));
+    if end < text.len() {
+        return Err(Refusal::BadText(end));
     }
-    Ok(finish(depth, end.runs, out))
+    Ok(made.finish())
 }

@@ -1,6 +1,6 @@
 // The descent through target cells, each with its slots, into eight children, the levels left falling.
-ghost use Rattle.std.specs.Prelude.{Bool, ℕ, suc, ◌+◌, ◌*◌, ◌<◌, ◌^◌};
-ghost use Rattle.emit.specs.Inner.{Fed, Result};
+ghost use Rattle.std.specs.Prelude.{◌≡◌, Bool, ℕ, suc, ◌+◌, ◌*◌, ◌<◌, ◌^◌};
+ghost use Rattle.emit.specs.Inner.{Feeds, Result};
 ghost use Rattle.shifts.specs.Shift.{shifted};
 ghost use Rattle.records.specs.Slot.{Source, Of, SlotTint};
 ghost use Rattle.shifts.specs.Descent.{Copying, Copies, Aimed, Divides};
@@ -9,7 +9,7 @@ ghost use Rattle.records.specs.declared.inner.slots.Tint.TheVariants.{Mixed};
 use crate::inner::labels::{axes, carry_label, sum_label};
 use crate::inner::sources::{colour, pick, split};
 use cells::inner::{first, pow8, width};
-use emit::inner::{Runs, finish, push};
+use emit::inner::Emitter;
 use records::inner::slots::{Slot, Tint, cell_from, tint_slot};
 
 // A target cell: its least voxel, the levels below it, and the axes on which the shift's labels of these levels are not all 0.
@@ -21,56 +21,52 @@ pub struct Target {
 }
 
 // A target cell that comes from one source cell, whose leaves are smaller: they are moved as they are.
-pub fn copy_leaves(depth: u32, l: &[u32], c: Target, s: Slot, r: Runs, out: &mut [u32]) -> Runs
-    requires { Copying depth l.now c s r × SlotTint depth l.now (8 ^ c.k) s Mixed }
-    ensures { (P : ℕ → Bool) (b : ℕ) → Of depth l.now c.k b s → Copies depth l.now b c P →
-        Fed depth P c.from (c.from + 8 ^ c.k) out.old r out.new result }
+pub fn copy_leaves(depth: u32, l: &[u32], c: Target, s: Slot, made: &mut Emitter<'_>)
+    requires { Copying depth l.now c s made.old × SlotTint depth l.now (8 ^ c.k) s Mixed }
+    ensures same { made.new.out.ghost_name ≡ made.old.out.ghost_name }
+    ensures depth { made.new.depth ≡ made.old.depth }
+    ensures fed { (P : ℕ → Bool) (b : ℕ) → Of depth l.now c.k b s → Copies depth l.now b c P →
+        Feeds depth P c.from (c.from + 8 ^ c.k) made.old made.new }
 {
     let base = cell_from(depth, l, c.k, s);
-    let mut t = r;
     for i in s.lo..s.hi {
         let code = l[i];
         let v = c.from + (first(depth, code) - base);
-        t = push(depth, t, true, v, v + width(depth, code), out);
+        made.push(true, v, v + width(depth, code));
     }
-    t
 }
 
 // A target cell that comes from one source cell: no leaf, one that has all of it, or smaller ones.
-pub fn copy_slot(depth: u32, l: &[u32], c: Target, s: Slot, r: Runs, out: &mut [u32]) -> Runs
-    requires { Copying depth l.now c s r }
-    ensures { (P : ℕ → Bool) (b : ℕ) → Of depth l.now c.k b s → Copies depth l.now b c P →
-        Fed depth P c.from (c.from + 8 ^ c.k) out.old r out.new result }
+pub fn copy_slot(depth: u32, l: &[u32], c: Target, s: Slot, made: &mut Emitter<'_>)
+    requires { Copying depth l.now c s made.old }
+    ensures same { made.new.out.ghost_name ≡ made.old.out.ghost_name }
+    ensures depth { made.new.depth ≡ made.old.depth }
+    ensures fed { (P : ℕ → Bool) (b : ℕ) → Of depth l.now c.k b s → Copies depth l.now b c P →
+        Feeds depth P c.from (c.from + 8 ^ c.k) made.old made.new }
 {
     let w = pow8(c.k);
     match tint_slot(depth, l, w, s) {
-        Tint::White => r,
-        Tint::Black => push(depth, r, true, c.from, c.from + w, out),
-        Tint::Mixed => copy_leaves(depth, l, c, s, r, out),
+        Tint::White => {}
+        Tint::Black => made.push(true, c.from, c.from + w),
+        Tint::Mixed => copy_leaves(depth, l, c, s, made),
     }
 }
 
 // The target cell c with its slots t. Where the rest of the shift is a multiple of its side, it comes from one source cell.
 #[cycle(shift_cell_shift_children)]
-pub fn shift_cell(
-    depth: u32,
-    l: &[u32],
-    w: u32,
-    c: Target,
-    t: [Slot; 8],
-    r: Runs,
-    out: &mut [u32],
-) -> Runs
-    requires { Aimed depth l.now w c t r }
-    ensures { Fed depth (shifted depth l.now w) c.from (c.from + 8 ^ c.k) out.old r out.new result }
+pub fn shift_cell(depth: u32, l: &[u32], w: u32, c: Target, t: [Slot; 8], made: &mut Emitter<'_>)
+    requires { Aimed depth l.now w c t made.old }
+    ensures same { made.new.out.ghost_name ≡ made.old.out.ghost_name }
+    ensures depth { made.new.depth ≡ made.old.depth }
+    ensures fed { Feeds depth (shifted depth l.now w) c.from (c.from + 8 ^ c.k) made.old made.new }
 {
     if c.axes == 0 {
-        return copy_slot(depth, l, c, t[0], r, out);
+        return copy_slot(depth, l, c, t[0], made);
     }
     let span = pow8(c.k);
     match colour(depth, l, span, c.axes, t) {
-        Tint::White => r,
-        Tint::Black => push(depth, r, true, c.from, c.from + span, out),
+        Tint::White => {}
+        Tint::Black => made.push(true, c.from, c.from + span),
         Tint::Mixed => {
             let k = c.k - 1;
             let p = split(depth, l, k, c.axes, t);
@@ -79,7 +75,7 @@ pub fn shift_cell(
                 k,
                 axes: axes(w, k),
             };
-            shift_children(depth, l, w, first, p, r, out)
+            shift_children(depth, l, w, first, p, made)
         }
     }
 }
@@ -92,28 +88,27 @@ pub fn shift_children(
     w: u32,
     c: Target,
     p: [[Slot; 8]; 8],
-    r: Runs,
-    out: &mut [u32],
-) -> Runs
-    requires { Divides depth l.now w c p r }
-    ensures { Fed depth (shifted depth l.now w) c.from (c.from + 8 ^ suc c.k) out.old r out.new result }
+    made: &mut Emitter<'_>,
+)
+    requires { Divides depth l.now w c p made.old }
+    ensures same { made.new.out.ghost_name ≡ made.old.out.ghost_name }
+    ensures depth { made.new.depth ≡ made.old.depth }
+    ensures fed { Feeds depth (shifted depth l.now w) c.from (c.from + 8 ^ suc c.k) made.old made.new }
 {
     let span = pow8(c.k);
     let h = (w >> (3 * c.k)) % 8;
-    let mut s = r;
     let mut v = c.from;
     for m in 0..8 {
         let child = Target { from: v, ..c };
         if c.axes == 0 {
             let from = carry_label(h, m, 0) as usize;
             let label = sum_label(h, m, 0) as usize;
-            s = copy_slot(depth, l, child, p[from][label], s, out);
+            copy_slot(depth, l, child, p[from][label], made);
         } else {
-            s = shift_cell(depth, l, w, child, pick(p, h, m), s, out);
+            shift_cell(depth, l, w, child, pick(p, h, m), made);
         }
         v += span;
     }
-    s
 }
 
 // The good list of the shifted voxels: its length, and its codes in `out`, as far as there is room.
@@ -127,6 +122,7 @@ pub fn shift_list(depth: u32, l: &[u32], w: u32, out: &mut [u32]) -> usize
         k: depth,
         axes: axes(w, depth),
     };
-    let s = shift_cell(depth, l, w, root, [all; 8], Runs::default(), out);
-    finish(depth, s, out)
+    let mut made = Emitter::new(depth, out);
+    shift_cell(depth, l, w, root, [all; 8], &mut made);
+    made.finish()
 }

@@ -29,7 +29,7 @@ impl Page<'_> {
         self.put_field(b"depth ", depth as u64);
         self.put_field(b" leaves ", leaves);
         self.put_field(b" volume ", voxels);
-        self.put(10);
+        self.put(b'\n');
     }
 }
 
@@ -51,6 +51,6 @@ pub fn put_refused(number: u32, place: u64, bytes: &mut [u8]) -> usize
     let mut page = Page::new(bytes);
     page.put_field(b"refused ", number as u64);
     page.put_field(b" ", place);
-    page.put(10);
+    page.put(b'\n');
     page.place()
 }

@@ -35,10 +35,11 @@ impl<'a> Page<'a> {
         ensures same { self.new.bytes.ghost_name ≡ self.old.bytes.ghost_name }
         ensures text { Puts self.old (byte ∷ []) self.new }
     {
-        if self.at < self.bytes.len() {
-            self.bytes[self.at] = byte;
+        let at = self.at;
+        if at < self.bytes.len() {
+            self.bytes[at] = byte;
         }
-        self.at += 1;
+        self.at = at + 1;
     }
 
     // A word.
@@ -59,11 +60,11 @@ impl<'a> Page<'a> {
         ensures text { (f : ℕ) → n < 10 ^ suc f → Puts self.old (digits 10 f n) self.new }
     {
         if n < 10 {
-            self.put(48 + n as u8);
+            self.put(b'0' + n as u8);
             return;
         }
         self.put_decimal(n / 10);
-        self.put(48 + (n % 10) as u8);
+        self.put(b'0' + (n % 10) as u8);
     }
 
     // The labels of a code, outermost first.
@@ -77,7 +78,7 @@ impl<'a> Page<'a> {
             return;
         }
         self.put_labels(code / 8);
-        self.put(48 + (code % 8) as u8);
+        self.put(b'0' + (code % 8) as u8);
     }
 
     // A word and a number.
@@ -98,8 +99,8 @@ impl<'a> Page<'a> {
         ensures text { (D : ℕ) → proper D code ≡ true → Puts self.old (path_line D code) self.new }
         ensures near { self.new.at ≤ self.old.at + longest_path }
     {
-        self.put(114);
+        self.put(b'r');
         self.put_labels(code);
-        self.put(10);
+        self.put(b'\n');
     }
 }

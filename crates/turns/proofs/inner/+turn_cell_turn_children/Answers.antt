@@ -41,35 +41,35 @@ turn_cell-turn_children-requires t c =
     let d = (goal.at.turn_cell-turn_children-requires t c).In-Mixed in
     (omega (arith, c.decreases, level t d), turning_children c.requires _ (level t d) c.cut_slot-parts.result c.cut_slot-parts.ensures)
 
-pub turn_cell-returns-in-White : goal.turn_cell-returns-in-White
-turn_cell-returns-in-White t c =
-    let d = (goal.at.turn_cell-returns-in-White t c).After-tint_slot in
+pub turn_cell-returns-in-White-clause-fed : goal.turn_cell-returns-in-White-clause-fed
+turn_cell-returns-in-White-clause-fed t c =
+    let d = (goal.at.turn_cell-returns-in-White-clause-fed t c).After-tint_slot in
     fed_white _ _ _ _ _ _ (omega arith) c.requires.root (turning_colour c.requires (told t d c.in-White.is) false refl) c.requires.ready
 
-pub turn_cell-returns-in-Black : goal.turn_cell-returns-in-Black
-turn_cell-returns-in-Black t c =
-    let d = (goal.at.turn_cell-returns-in-Black t c).After-tint_slot in
+pub turn_cell-returns-in-Black-clause-fed : goal.turn_cell-returns-in-Black-clause-fed
+turn_cell-returns-in-Black-clause-fed t c =
+    let d = (goal.at.turn_cell-returns-in-Black-clause-fed t c).After-tint_slot in
     let wide : c.pow8-w.result ≡ 8 ^ c.args.c.k = c.pow8-w.ensures in
     fed_to _ _ (ap (λ (y : ℕ). c.args.c.from + y) wide)
-    (c.push.ensures _ (λ v lo hi. turning_colour c.requires (told t d c.in-Black.is) true refl v lo (omega (arith, wide))))
+    (rw c.requires.depth at (c.push.ensures.fed _ (λ v lo hi. turning_colour c.requires (told t d c.in-Black.is) true refl v lo (omega (arith, wide)))))
 
-pub turn_cell-returns-in-Mixed : goal.turn_cell-returns-in-Mixed
-turn_cell-returns-in-Mixed t c =
-    let d = (goal.at.turn_cell-returns-in-Mixed t c).In-Mixed in
-    fed_to _ _ (ap (λ (n : ℕ). c.args.c.from + 8 ^ n) (level t d)) c.turn_children.ensures
+pub turn_cell-returns-in-Mixed-clause-fed : goal.turn_cell-returns-in-Mixed-clause-fed
+turn_cell-returns-in-Mixed-clause-fed t c =
+    let d = (goal.at.turn_cell-returns-in-Mixed-clause-fed t c).In-Mixed in
+    fed_to _ _ (ap (λ (n : ℕ). c.args.c.from + 8 ^ n) (level t d)) c.turn_children.ensures.fed
 
 -- ---- the children
 
 -- child m, with the part that the label picks
 child : (t : ℕ) (c : turn_children-After-source_label t)
-    → Turning c.args.depth c.args.l.now (record { from = c.loop-m.v; k = c.args.c.k; turns = c.args.c.turns }) (slot_at c.args.parts c.source_label.result) c.loop-m.s
+    → Turning c.args.depth c.args.l.now (record { from = c.loop-m.v; k = c.args.c.k; turns = c.args.c.turns }) (slot_at c.args.parts c.source_label.result) c.loop-m.made
 child t c =
     let u = c.loop-m in
     let place = u.invariant.place ∙ ap (λ (y : ℕ). c.args.c.from + u.m * y) c.pow8-span.ensures in
-    child_turning c.requires u.m _ u.v c.loop-m-test.true c.source_label.ensures.0 place u.invariant.fed.ready
+    child_turning c.requires u.m _ u.v c.loop-m-test.true c.source_label.ensures.0 place u.invariant.depth u.invariant.fed.ready
 
-pub turn_children-turn_cell-s-requires : goal.turn_children-turn_cell-s-requires
-turn_children-turn_cell-s-requires t c = (omega (arith, c.decreases), child t (goal.at.turn_children-turn_cell-s-requires t c).After-source_label)
+pub turn_children-turn_cell-requires : goal.turn_children-turn_cell-requires
+turn_children-turn_cell-requires t c = (omega (arith, c.decreases), child t (goal.at.turn_children-turn_cell-requires t c).After-source_label)
 
 -- child m ends within the root
 pub turn_children-overflow_add-v : goal.turn_children-overflow_add-v
@@ -81,13 +81,13 @@ pub turn_children-loop-m-preserved : goal.turn_children-loop-m-preserved
 turn_children-loop-m-preserved t c =
     let inv = c.loop-m.invariant in
     elim c.if-slot.branch [
-      | turn_children-then-slot w ↦ rw (w.out-is, w.s-is) (children_more inv c.loop-m-test.true c.pow8-span.ensures w.turn_cell-s.auto.out w.turn_cell-s.ensures)
+      | turn_children-then-slot w ↦ rw w.made-is (children_more inv c.loop-m-test.true c.pow8-span.ensures w.turn_cell.ensures.same w.turn_cell.ensures.depth w.turn_cell.ensures.fed)
       | turn_children-else-slot w ↦
           let x = child t (goal.at.turn_children-loop-m-preserved t c).After-source_label in
-          rw (w.out-is, w.s-is) (children_more inv c.loop-m-test.true c.pow8-span.ensures refl (fed_white _ _ _ _ _ _ (omega arith) x.root (turning_colour x {tint = White} w.if-slot.false false refl) x.ready))
+          rw w.made-is (children_more inv c.loop-m-test.true c.pow8-span.ensures refl refl (fed_white _ _ _ _ _ _ (omega arith) x.root (turning_colour x {tint = White} w.if-slot.false false refl) x.ready))
     ]
 
-pub turn_children-returns : goal.turn_children-returns
-turn_children-returns t c =
+pub turn_children-returns-clause-fed : goal.turn_children-returns-clause-fed
+turn_children-returns-clause-fed t c =
     let k = c.args.c.k in
     children_all c.loop-m.invariant (8 ^ suc k) c.loop-m-test.false (omega (arith, pow8_suc k, c.pow8-span.ensures))

@@ -11,4 +11,4 @@ abbrev pub decreases-turn_children : goal.decreases-turn_children
 decreases-turn_children l = 2 * l.c.k + 1
 
 abbrev pub invariant-turn_children-loop-m : goal.invariant-turn_children-loop-m
-invariant-turn_children-loop-m l = Children l.depth (turned l.depth l.l l.fn.c.turns) l.fn.c.from l.fn.out l.fn.r l.span l.out l.s l.v l.m
+invariant-turn_children-loop-m l = Children l.depth (turned l.depth l.l l.fn.c.turns) l.fn.c.from l.fn.made l.span l.made l.v l.m

@@ -15,37 +15,37 @@ use Rattle.df.proofs.inner.reading.+read_cell_read_gray.Goals.{read_cell-in-Whit
 -- ---- the cell
 
 -- a byte that is no head, or none at all
-pub read_cell-returns-in_default : goal.read_cell-returns-in_default
-read_cell-returns-in_default t c = no_head _ _ _ c.requires.within c.in_default.ensures
+pub read_cell-returns-in_default-clause-read : goal.read_cell-returns-in_default-clause-read
+read_cell-returns-in_default-clause-read t c = no_head _ _ _ c.requires.within c.in_default.ensures
 
 pub read_cell-overflow_add-from : goal.read_cell-overflow_add-from
 read_cell-overflow_add-from t c = record { fits = omega (arith, c.pow8.ensures, c.requires.root, pow8_small c.args.depth c.requires.deep) }
 
-pub read_cell-push-runs-requires : goal.read_cell-push-runs-requires
-read_cell-push-runs-requires t c = record {
+pub read_cell-push-requires : goal.read_cell-push-requires
+read_cell-push-requires t c = rw c.requires.depth (record {
   deep = c.requires.deep;
   ready = c.requires.ready;
   some = omega (arith, c.pow8.ensures, pow8_pos c.args.k);
   root = omega (arith, c.pow8.ensures, c.requires.root);
-}
+})
 
 -- a gray voxel
-pub read_cell-returns-then-k-eq0 : goal.read_cell-returns-then-k-eq0
-read_cell-returns-then-k-eq0 t c =
-    let opens : get_or c.args.text.now c.args.r.at 0 ≡ opening = c.in-Some.ensures.1 ∙ ap byte_of c.in-Open.is in
+pub read_cell-returns-then-k-eq0-clause-read : goal.read_cell-returns-then-k-eq0-clause-read
+read_cell-returns-then-k-eq0-clause-read t c =
+    let opens : get_or c.args.text.now c.args.at 0 ≡ opening = c.in-Some.ensures.1 ∙ ap byte_of c.in-Open.is in
     stuck_here _ _ _ c.requires.within (λ b e. letter_opens b (sym e ∙ opens)) (λ e. c.if-k-eq0.true)
 
 -- a leaf
-pub read_cell-returns : goal.read_cell-returns
-read_cell-returns t c =
+pub read_cell-returns-clause-read : goal.read_cell-returns-clause-read
+read_cell-returns-clause-read t c =
     let (more, byte) = c.in-Some.ensures in
     elim c.match-head.branch [
       | read_cell-in-White w ↦
-          rw (w.out-is, w.runs-is) (leaf_read false more (byte ∙ ap byte_of w.in-White.is) (sym (ap byte_of w.in-White.is)) refl (λ P agree. fed_white _ P _ _ _ _ (omega arith) c.requires.root agree c.requires.ready))
+          rw w.made-is (leaf_read false more (byte ∙ ap byte_of w.in-White.is) (sym (ap byte_of w.in-White.is)) refl (λ P agree. fed_white _ P _ _ _ _ (omega arith) c.requires.root agree c.requires.ready))
       | read_cell-in-Black w ↦
           let wide = w.pow8.ensures in
-          rw (w.out-is, w.runs-is) (leaf_read true more (byte ∙ ap byte_of w.in-Black.is) (sym (ap byte_of w.in-Black.is)) refl
-          (λ P agree. fed_to _ P (ap (λ (w : ℕ). c.args.from + w) wide) (w.push-runs.ensures P (λ v lo hi. agree v lo (omega (arith, wide))))))
+          rw w.made-is (leaf_read true more (byte ∙ ap byte_of w.in-Black.is) (sym (ap byte_of w.in-Black.is)) refl
+          (λ P agree. fed_to _ P (ap (λ (w : ℕ). c.args.from + w) wide) (rw c.requires.depth at (w.push.ensures.fed P (λ v lo hi. agree v lo (omega (arith, wide)))))))
     ]
 
 -- ---- the children
@@ -59,11 +59,11 @@ read_gray-read_cell-requires t c =
     (omega (arith, c.decreases), kids_ahead c.loop-m.invariant a.cell a.corner a c.loop-m-test.true)
 
 -- a child is wrong
-pub read_gray-returns-in_err-child : goal.read_gray-returns-in_err-child
-read_gray-returns-in_err-child t c =
+pub read_gray-returns-in_err-child-clause-read : goal.read_gray-returns-in_err-child-clause-read
+read_gray-returns-in_err-child-clause-read t c =
     let a = c.requires.ahead in
     let p = err_from_is_err_and c.from_residual.result c.from_residual.ensures.1 in
-    rw (p.1, p.2) (kids_stuck c.loop-m.invariant a.cell a.corner c.requires.more c.requires.opens refl c.loop-m-test.true c.in_err-child.ensures)
+    rw (p.1, p.2) (kids_stuck c.loop-m.invariant a.cell a.corner c.requires.more c.requires.opens refl c.loop-m-test.true c.in_err-child.ensures.read)
 
 pub read_gray-overflow_add-v : goal.read_gray-overflow_add-v
 read_gray-overflow_add-v t c =
@@ -73,16 +73,16 @@ read_gray-overflow_add-v t c =
 pub read_gray-loop-m-preserved : goal.read_gray-loop-m-preserved
 read_gray-loop-m-preserved t c =
     let a = c.requires.ahead in
-    rw c.pow8-span.ensures (kids_next c.loop-m.invariant a.cell a.corner c.loop-m-test.true c.in_ok-child.ensures c.shared.ensures c.read_cell.auto.out)
+    rw c.pow8-span.ensures (kids_next c.loop-m.invariant a.cell a.corner c.loop-m-test.true c.in_ok-child.ensures.read c.shared.ensures c.read_cell.ensures.same c.read_cell.ensures.depth)
 
 -- the eighth makes eight equal leaves
-pub read_gray-returns-then-ne : goal.read_gray-returns-then-ne
-read_gray-returns-then-ne t c =
+pub read_gray-returns-then-ne-clause-read : goal.read_gray-returns-then-ne-clause-read
+read_gray-returns-then-ne-clause-read t c =
     let a = c.requires.ahead in
     let x = c.loop-m.invariant in
     kids_eighth x a.cell a.corner c.requires.more c.requires.opens refl c.loop-m-test.false (search rules) (omega (arith, x.reads.place))
 
-pub read_gray-returns : goal.read_gray-returns
-read_gray-returns t c =
+pub read_gray-returns-clause-read : goal.read_gray-returns-clause-read
+read_gray-returns-clause-read t c =
     let a = c.requires.ahead in
-    kids_gray c.loop-m.invariant a.cell a.corner c.requires.more c.requires.opens refl c.loop-m-test.false refl refl (search rules) refl refl
+    kids_gray c.loop-m.invariant a.cell a.corner c.requires.more c.requires.opens refl c.loop-m-test.false (search rules) refl refl

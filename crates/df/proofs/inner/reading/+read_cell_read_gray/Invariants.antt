@@ -10,4 +10,4 @@ abbrev pub decreases-read_gray : goal.decreases-read_gray
 decreases-read_gray l = 2 * l.k + 1
 
 abbrev pub invariant-read_gray-loop-m : goal.invariant-read_gray-loop-m
-invariant-read_gray-loop-m l = KidsRead l.depth l.text l.k l.from l.fn.out l.initial.after l.out l.after l.v l.alike l._m
+invariant-read_gray-loop-m l = KidsRead l.depth l.text l.k l.from l.initial.after l.fn.made l.made l.after l.v l.alike l._m

@@ -11,4 +11,4 @@ abbrev pub decreases-shift_children : goal.decreases-shift_children
 decreases-shift_children l = 2 * l.c.k + 1
 
 abbrev pub invariant-shift_children-loop-m : goal.invariant-shift_children-loop-m
-invariant-shift_children-loop-m l = Children l.depth (shifted l.depth l.l l.w) l.fn.c.from l.fn.out l.fn.r l.span l.out l.s l.v l.m
+invariant-shift_children-loop-m l = Children l.depth (shifted l.depth l.l l.w) l.fn.c.from l.fn.made l.span l.made l.v l.m

@@ -20,11 +20,11 @@ colour c x e P b part h v lo hi =
 pub overflow_add-c : goal.overflow_add-c
 overflow_add-c c = record { fits = omega (arith, c.pow8-w.ensures, c.requires.root, pow8_small c.args.depth c.requires.held.source.deep) }
 
-pub returns-in-White : goal.returns-in-White
-returns-in-White c P b x h = fed_white _ P _ _ _ _ (omega arith) c.requires.root (colour (goal.at.returns-in-White c).After-tint_slot false c.in-White.is P b x h) c.requires.ready
+pub returns-in-White-clause-fed : goal.returns-in-White-clause-fed
+returns-in-White-clause-fed c P b x h = fed_white _ P _ _ _ _ (omega arith) c.requires.root (colour (goal.at.returns-in-White-clause-fed c).After-tint_slot false c.in-White.is P b x h) c.requires.ready
 
-pub returns-in-Black : goal.returns-in-Black
-returns-in-Black c P b x h =
+pub returns-in-Black-clause-fed : goal.returns-in-Black-clause-fed
+returns-in-Black-clause-fed c P b x h =
     let w = c.pow8-w.ensures in
     fed_to _ P (ap (λ (y : ℕ). c.args.c.from + y) w)
-    (c.push.ensures P (λ v lo hi. colour (goal.at.returns-in-Black c).After-tint_slot true c.in-Black.is P b x h v lo (omega (arith, w))))
+    (rw c.requires.depth at (c.push.ensures.fed P (λ v lo hi. colour (goal.at.returns-in-Black-clause-fed c).After-tint_slot true c.in-Black.is P b x h v lo (omega (arith, w)))))
