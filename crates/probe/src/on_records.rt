@@ -44,12 +44,14 @@ pub extern "C" fn probe_lookup(depth: u32, list: &[u32], x: u32, y: u32, z: u32,
     tell(answer, a, 0, 0, 0, level as u64);
 }
 
-// As many codes of `from` as fit, at the front of `to`.
+// As many codes of `from` as fit, at the front of `to`. (By `copy_from_slice` the archive would need memmove from outside.)
 fn copy(from: &[u32], to: &mut [u32])
     ensures { to.new ≡ copied from.now to.old }
 {
     let n = from.len().min(to.len());
-    to[..n].copy_from_slice(&from[..n]);
+    for i in 0..n {
+        to[i] = from[i];
+    }
 }
 
 // The companion's answer, the length of the returned part beside it, and the part's codes in `part`, as many as fit.
