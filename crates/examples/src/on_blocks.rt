@@ -1,6 +1,7 @@
 // Stored blocks: lists written, their check, and read back.
+use blocks::inner::readings;
 use blocks::{check_blocks, read, stored_volume, write};
-use printing::inner::print::{Items, told};
+use printing::inner::print::{Items, Numbers, told};
 use std::io;
 
 // The word whose first byte is p; 0 where the bytes end before it does.
@@ -21,18 +22,13 @@ fn told_of(rt: &impl Print, bytes: &[u8]) -> io::Result<()> {
         word(bytes, 504),
         word(bytes, 508)
     )?;
-    match read(bytes, &mut codes) {
-        Ok(found) => {
-            let list = codes.get(..found.leaves).unwrap_or(&[]);
-            println!(rt;
-                " read: 0 {} 0 depth {} {}",
-                found.leaves,
-                found.depth,
-                Items(list)
-            )
-        }
-        Err(refusal) => println!(rt; " read: {} depth 0", told(refusal)),
+    let found = read(bytes, &mut codes);
+    let (answer, depth) = readings::told(found);
+    print!(rt; " read: {} depth {depth}", Numbers(answer))?;
+    if let Ok(read) = found {
+        print!(rt; " {}", Items(codes.get(..read.leaves).unwrap_or(&[])))?;
     }
+    println!(rt; "")
 }
 
 // A list written to a buffer, with what is said of its room, and what is told of the buffer then.

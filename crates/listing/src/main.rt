@@ -5,8 +5,8 @@
 ghost use Rattle.std.specs.Prelude.{◌≤◌, length};
 ghost use Rattle.listing.specs.Listing.{longest, most_codes, longest_text, Page};
 
+use blocks::inner::readings;
 use blocks::{BLOCK_BYTES, BLOCK_CODES, read};
-use cells::Answer;
 use reading::inner::read_full;
 use std::io;
 use text::{LONGEST_HEAD, LONGEST_PATH, list_text, refused_text};
@@ -25,13 +25,11 @@ fn page(bytes: &[u8], codes: &mut [u32], text: &mut [u8]) -> usize
     requires { (length bytes.now ≤ longest) × (most_codes ≤ length codes.old) × (longest_text ≤ length text.old) }
     ensures { Page bytes.now text.old result text.new }
 {
-    match read(bytes, codes) {
-        Ok(found) => list_text(found.depth, &codes[..found.leaves], text).unwrap(),
-        Err(refusal) => {
-            let answer = Answer::from(refusal);
-            refused_text(answer.number, answer.place, text).unwrap()
-        }
+    let (answer, depth) = readings::told(read(bytes, codes));
+    if answer.number != 0 {
+        return refused_text(answer.number, answer.place, text).unwrap();
     }
+    list_text(depth, &codes[..answer.place as usize], text).unwrap()
 }
 
 fn main(rt: HostRuntime) -> io::Result<()> {

@@ -5,6 +5,7 @@ use blocks::{BLOCK_BYTES, BLOCK_CODES, read};
 use cells::{Answer, Refusal};
 use reading::inner::read_full;
 use records::Finding;
+use records::inner::findings;
 use std::env::Env;
 use std::rt::Files;
 use std::{fs, io};
@@ -45,14 +46,8 @@ pub fn tell(rt: &impl Print, asked: &str, told: impl Into<Answer>) -> io::Result
 
 // What a lookup tells: its answer, and the level beside it.
 pub fn tell_found(rt: &impl Print, asked: &str, found: Result<Finding, Refusal>) -> io::Result<()> {
-    match found {
-        Ok(seen) => println!(rt;
-            "{asked}: {} level {}",
-            Answer::success(seen.black as u64),
-            seen.level
-        ),
-        Err(refusal) => println!(rt; "{asked}: {} level 0", Answer::from(refusal)),
-    }
+    let (answer, level) = findings::told(found);
+    println!(rt; "{asked}: {answer} level {level}")
 }
 
 // The listing of a stored file under its title, or why it has none.

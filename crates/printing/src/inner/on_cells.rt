@@ -1,15 +1,42 @@
 // Cells and codes, and neighbours.
-use crate::inner::print::told;
+ghost use Rattle.std.specs.Prelude.{◌≡◌};
+ghost use Rattle.cells.specs.Corners.{place_answer};
+
+use crate::inner::print::{Numbers, told};
+use cells::{Answer, Corner, Refusal};
 use std::io;
 
-fn place(rt: &impl Print, depth: u32, code: u32) -> io::Result<()> {
-    match cells::place(depth, code) {
-        Ok(r) => println!(rt;
-            "place {depth} {code}: 0 0 0 at {} {} {} level {}",
-            r.x, r.y, r.z, r.level
-        ),
-        Err(refusal) => println!(rt; "place {depth} {code}: {} at 0 0 0 level 0", told(refusal)),
+// What `place` tells in the numbers of the table: the answer, and beside it the corner and the level, which are 0 in a refusal.
+fn placed(found: Result<Corner, Refusal>) -> (Answer, Corner)
+    ensures { result ≡ (
+      (place_answer found).answer,
+      record { x = (place_answer found).x; y = (place_answer found).y; z = (place_answer found).z; level = (place_answer found).level },
+    ) }
+{
+    match found {
+        Ok(corner) => (Answer::success(0), corner),
+        Err(refusal) => {
+            let none = Corner {
+                x: 0,
+                y: 0,
+                z: 0,
+                level: 0,
+            };
+            (Answer::from(refusal), none)
+        }
     }
+}
+
+fn place(rt: &impl Print, depth: u32, code: u32) -> io::Result<()> {
+    let (answer, at) = placed(cells::place(depth, code));
+    println!(rt;
+        "place {depth} {code}: {} at {} {} {} level {}",
+        Numbers(answer),
+        at.x,
+        at.y,
+        at.z,
+        at.level
+    )
 }
 
 fn code(rt: &impl Print, depth: u32, x: u32, y: u32, z: u32, level: u32) -> io::Result<()> {

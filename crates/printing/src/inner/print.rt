@@ -1,6 +1,7 @@
 // What a line shows of a call: its answer, items in brackets, and what it wrote at the front of a buffer.
 use cells::{Answer, Refusal};
 use records::Finding;
+use records::inner::findings;
 use std::fmt;
 
 // Items in brackets, a space between.
@@ -41,15 +42,8 @@ pub struct Seen(pub Result<Finding, Refusal>);
 
 impl fmt::Display for Seen {
     fn fmt<W: fmt::Write>(&self, f: &mut fmt::Formatter<W>) -> fmt::Result {
-        match self.0 {
-            Ok(seen) => write!(
-                f,
-                "{} level {}",
-                Numbers(Answer::success(seen.black as u64)),
-                seen.level
-            ),
-            Err(refusal) => write!(f, "{} level 0", Numbers(Answer::from(refusal))),
-        }
+        let (answer, level) = findings::told(self.0);
+        write!(f, "{} level {level}", Numbers(answer))
     }
 }
 
