@@ -20,7 +20,10 @@ pub fn df_read(depth: u32, text: &[u8], out: &mut [u32]) -> Result<usize, Refusa
     if DEEPEST < depth {
         return Err(Refusal::Depth);
     }
-    let need = read_text(depth, text, &mut out[..0])?;
+    let need = match read_text(depth, text, &mut out[..0]) {
+        Ok(leaves) => leaves,
+        Err(wrong) => return Err(wrong),
+    };
     if out.len() < need {
         return Err(Refusal::TooShort(need));
     }

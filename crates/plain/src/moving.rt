@@ -10,7 +10,7 @@ ghost use Rattle.plain.specs.Inner.{Painted};
 
 use crate::DEEPEST_PLAIN;
 use crate::inner::bits::{Bits, bytes_for, mark};
-use crate::inner::displaced::displace;
+use crate::inner::displaced::{displace, other_way};
 use cells::Refusal;
 use cells::inner::pow8;
 use metres::Move;
@@ -22,7 +22,10 @@ fn leaves(bits: Bits<'_>, u: u32, d: Displacement) -> bool
     requires { u < 8 ^ bits.depth }
     ensures { (by : ℕ → ℤ) → AllSplit by (parts d) → (result ≡ true) ↔ Leaves (Came bits.entry.depth by) (black_in bits.entry.depth bits.entry.bytes.now) u }
 {
-    bits.is_black(u) && displace(bits.depth, u, d).is_none()
+    if !bits.is_black(u) {
+        return false;
+    }
+    displace(bits.depth, u, d).is_none()
 }
 
 // The first black voxel that leaves the root.
@@ -75,7 +78,7 @@ fn move_whole(depth: u32, bits: &[u8], by: Steps, out: &mut [u8]) -> Result<usiz
     if let Some(u) = first_leaving(bits, d) {
         return Err(Refusal::Strays(u as usize, 1));
     }
-    paint_moved(bits, d.opposite(), out);
+    paint_moved(bits, other_way(d), out);
     Ok(need)
 }
 

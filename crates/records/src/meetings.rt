@@ -41,8 +41,10 @@ fn find(
     ensures meeting { MeetingOf depth list.now code (axes dx dy dz) (meeting_of result) }
 {
     check(depth, list)?;
-    let next = neighbour(depth, code, dx, dy, dz)?;
-    Ok(part(depth, list, next))
+    match neighbour(depth, code, dx, dy, dz) {
+        Ok(next) => Ok(part(depth, list, next)),
+        Err(refusal) => Err(refusal),
+    }
 }
 
 // All leaves that share a voxel with the neighbour cell, as a part of the caller's own list. In every refused case it is the empty part at the list's beginning.

@@ -29,7 +29,10 @@ pub struct Holding {
 pub fn holding_of(bytes: &[u8]) -> Result<Holding, Refusal>
     ensures { HoldingOf bytes.now (answered result) }
 {
-    let leaves = check_blocks(bytes)?;
+    let leaves = match check_blocks(bytes) {
+        Ok(leaves) => leaves,
+        Err(refusal) => return Err(refusal),
+    };
     let depth = word_at(bytes, 0, 2);
     match judge_stored(depth, bytes, leaves) {
         Ok(walk) => Ok(Holding {

@@ -1,11 +1,32 @@
 // Where a voxel comes to, coordinate by coordinate.
-ghost use Rattle.std.specs.Prelude.{ℕ, ◌^◌, ◌<◌, ◌≤◌, ℤ, IfSome};
+ghost use Rattle.std.specs.Prelude.{ℕ, ◌^◌, ◌<◌, ◌≤◌, ℤ, neg_ℤ, IfSome};
 ghost use Rattle.moves.specs.Inner.{Splits, AllSplit, parts};
 ghost use Rattle.plain.specs.Calls.{deepest_plain};
 ghost use Rattle.plain.specs.Inner.{Comes, ComesTo};
 
 use cells::inner::{axis, number_of, pow2};
 use moves::inner::{Displacement, Parted};
+
+// The displacement along one axis the other way.
+fn opposite(d: Parted) -> Parted
+    ensures { (z : ℤ) → Splits z d → Splits (neg_ℤ z) result }
+{
+    Parted {
+        up: d.down,
+        down: d.up,
+    }
+}
+
+// The displacement the other way.
+pub fn other_way(d: Displacement) -> Displacement
+    ensures { (by : ℕ → ℤ) → AllSplit by (parts d) → AllSplit (λ a. neg_ℤ (by a)) (parts result) }
+{
+    Displacement {
+        x: opposite(d.x),
+        y: opposite(d.y),
+        z: opposite(d.z),
+    }
+}
 
 // Where a coordinate comes to, if it stays below the root's side.
 fn come(side: u32, x: u32, d: Parted) -> Option<u32>

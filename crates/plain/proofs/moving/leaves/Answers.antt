@@ -3,6 +3,6 @@ use Rattle.std.proofs.Common.{sym, ◌∙◌}
 use Rattle.plain.proofs.Voxels.{leaves_exactly}
 use Rattle.plain.proofs.moving.leaves.Goals as goal
 
-pub returns-then-is_black : goal.returns-then-is_black
-returns-then-is_black c by split =
-    leaves_exactly c.args.bits.depth by c.args.bits.bytes.now c.args.u c.displace.result c.is_none.result (c.displace.ensures.comes by split) (sym c.is_black.ensures ∙ c.if-is_black.true) c.is_none.ensures
+pub returns : goal.returns
+returns c by split =
+    leaves_exactly c.args.bits.depth by c.args.bits.bytes.now c.args.u c.displace.result c.is_none.result (c.displace.ensures.comes by split) (sym c.is_black.ensures ∙ c.if-not-is_black.false) c.is_none.ensures

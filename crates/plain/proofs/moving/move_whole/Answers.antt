@@ -29,7 +29,7 @@ returns c =
         bits_long a.depth _ c.bytes_for-need.ensures a.out.now c.if-out-need.false,
         inr (
           passes_first (rw (d, b) at (c.in_default-first_leaving.ensures by c.from-d.ensures)),
-          gives_painted a.depth _ c.bytes_for-need.ensures (rw (d, b) at (c.paint_moved.ensures by (c.opposite.ensures by c.from-d.ensures))) refl,
+          gives_painted a.depth _ c.bytes_for-need.ensures (rw (d, b) at (c.paint_moved.ensures by (c.other_way.ensures by c.from-d.ensures))) refl,
         ),
       ),
     )

@@ -62,9 +62,9 @@ pub part-requires : goal.part-requires
 part-requires c =
     let a = c.args in
     let d = axes a.dx a.dy a.dz in
-    let next = directed a.depth a.code a.dx a.dy a.dz c.ranges.dx c.ranges.dy c.ranges.dz (given c.in_ok-next.next) c.in_ok-next.ensures in
-    let k = known a.depth a.list.now a.code d (given c.in_ok-check.field-0) c.in_ok-check.ensures refl (given c.in_ok-next.next) next in
-    let m = is_next a.depth a.list.now a.code d (given c.in_ok-check.field-0) c.in_ok-check.ensures refl (given c.in_ok-next.next) next refl in
+    let next = directed a.depth a.code a.dx a.dy a.dz c.ranges.dx c.ranges.dy c.ranges.dz (given c.in-Ok.next) c.in-Ok.ensures in
+    let k = known a.depth a.list.now a.code d (given c.in_ok-check.field-0) c.in_ok-check.ensures refl (given c.in-Ok.next) next in
+    let m = is_next a.depth a.list.now a.code d (given c.in_ok-check.field-0) c.in_ok-check.ensures refl (given c.in-Ok.next) next refl in
     (k.shallow, k.good.ordered, m.is_proper)
 
 pub returns-in_err-check : goal.returns-in_err-check
@@ -74,21 +74,19 @@ returns-in_err-check c =
     let p = err_from_is_err_and c.from_residual.result c.from_residual.ensures.1 in
     rw (p.1, p.2) (record { rises = tt; meeting = unlisted a.depth a.list.now a.code (axes a.dx a.dy a.dz) (refused e) c.in_err-check.ensures (refused_numbered e) })
 
-pub returns-in_err-next : goal.returns-in_err-next
-returns-in_err-next c =
+pub returns-in-Err : goal.returns-in-Err
+returns-in-Err c =
     let a = c.args in
-    let e = c.in_err-next.field-0.0 in
-    let next = directed a.depth a.code a.dx a.dy a.dz c.ranges.dx c.ranges.dy c.ranges.dz (refused e) c.in_err-next.ensures in
-    let p = err_from_is_err_and c.from_residual-in_err-next.result c.from_residual-in_err-next.ensures.1 in
-    rw (p.1, p.2)
-    (record { rises = tt; meeting = outside a.depth a.list.now a.code (axes a.dx a.dy a.dz) (given c.in_ok-check.field-0) c.in_ok-check.ensures refl (refused e) next (refused_numbered e) })
+    let e = c.in-Err.refusal in
+    let next = directed a.depth a.code a.dx a.dy a.dz c.ranges.dx c.ranges.dy c.ranges.dz (refused e) c.in-Err.ensures in
+    record { rises = tt; meeting = outside a.depth a.list.now a.code (axes a.dx a.dy a.dz) (given c.in_ok-check.field-0) c.in_ok-check.ensures refl (refused e) next (refused_numbered e) }
 
-pub returns : goal.returns
-returns c =
+pub returns-in-Ok : goal.returns-in-Ok
+returns-in-Ok c =
     let a = c.args in
-    let next = directed a.depth a.code a.dx a.dy a.dz c.ranges.dx c.ranges.dy c.ranges.dz (given c.in_ok-next.next) c.in_ok-next.ensures in
+    let next = directed a.depth a.code a.dx a.dy a.dz c.ranges.dx c.ranges.dy c.ranges.dz (given c.in-Ok.next) c.in-Ok.ensures in
     record {
       rises = c.part.ensures.0;
-      meeting = meets a.depth a.list.now a.code (axes a.dx a.dy a.dz) (given c.in_ok-check.field-0) c.in_ok-check.ensures refl (given c.in_ok-next.next) next refl
+      meeting = meets a.depth a.list.now a.code (axes a.dx a.dy a.dz) (given c.in_ok-check.field-0) c.in_ok-check.ensures refl (given c.in-Ok.next) next refl
           c.part.result.start (c.part.result.end - c.part.result.start) c.part.ensures.1;
     }
