@@ -1,6 +1,6 @@
 -- The list's tests, then the neighbour's.
 use Rattle.std.proofs.lemmas.Result.{err_from_is_err_and}
-use Rattle.std.proofs.Common.{◌≡◌, List, [], ◌∷◌, ℕ, ◌-◌, ℤ, refl, w32, SFits, to_z, of_z}
+use Rattle.std.proofs.Common.{◌≡◌, List, [], ◌∷◌, ℕ, ◌-◌, ℤ, refl, w32, SFits, to_z, of_z, rules}
 use Rattle.cells.specs.Answer.{given, Test, Decided, alone, deepest, TooDeep}
 use Rattle.cells.specs.Refusals.{refused}
 use Rattle.cells.specs.Place.{axes}
@@ -79,7 +79,7 @@ returns-in-Err c =
     let a = c.args in
     let e = c.in-Err.refusal in
     let next = directed a.depth a.code a.dx a.dy a.dz c.ranges.dx c.ranges.dy c.ranges.dz (refused e) c.in-Err.ensures in
-    record { rises = tt; meeting = outside a.depth a.list.now a.code (axes a.dx a.dy a.dz) (given c.in_ok-check.field-0) c.in_ok-check.ensures refl (refused e) next (refused_numbered e) }
+    record { rises = search rules; meeting = outside a.depth a.list.now a.code (axes a.dx a.dy a.dz) (given c.in_ok-check.field-0) c.in_ok-check.ensures refl (refused e) next (refused_numbered e) }
 
 pub returns-in-Ok : goal.returns-in-Ok
 returns-in-Ok c =
