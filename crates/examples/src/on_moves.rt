@@ -131,3 +131,30 @@ pub fn run_metres(rt: &impl Print) -> io::Result<()> {
     no_numbers(rt)?;
     range_ends(rt)
 }
+
+#[cfg(test)]
+mod tests {
+    use metres::inner::Steps;
+    use moves::inner::Displacement;
+
+    // The ways up and down along each axis of the opposite of a move in whole voxels, and of the opposite of that.
+    #[test]
+    fn opposite_changes_up_and_down(rt: HostRuntime) {
+        let least = 0x8000_0000;
+        let to = Displacement::from(Steps {
+            x: 3,
+            y: -2,
+            z: i32::MIN,
+        });
+        let back = to.opposite();
+        assert_eq!(rt; (back.x.up, back.x.down), (0, 3));
+        assert_eq!(rt; (back.y.up, back.y.down), (2, 0));
+        assert_eq!(rt; (back.z.up, back.z.down), (least, 0));
+        let forth = back.opposite();
+        assert_eq!(rt; (forth.x.up, forth.x.down), (3, 0));
+        assert_eq!(rt; (forth.y.up, forth.y.down), (0, 2));
+        assert_eq!(rt; (forth.z.up, forth.z.down), (0, least));
+        let none = Displacement::from(Steps { x: 0, y: 0, z: 0 }).opposite();
+        assert_eq!(rt; (none.x.up, none.x.down), (0, 0));
+    }
+}

@@ -60,6 +60,16 @@ impl Parted {
         let side = pow2(depth);
         (self.down % side + (side - self.up % side)) % side
     }
+
+    // The displacement the other way.
+    fn opposite(self) -> Parted
+        ensures { (z : ℤ) → Splits z self → Splits (neg_ℤ z) result }
+    {
+        Parted {
+            up: self.down,
+            down: self.up,
+        }
+    }
 }
 
 // A displacement, by its parts along each axis.
@@ -120,5 +130,16 @@ impl Displacement {
             self.y.reverse(depth),
             self.z.reverse(depth),
         )
+    }
+
+    // The displacement the other way.
+    pub fn opposite(self) -> Displacement
+        ensures { (d : ℕ → ℤ) → AllSplit d (parts self) → AllSplit (λ a. neg_ℤ (d a)) (parts result) }
+    {
+        Displacement {
+            x: self.x.opposite(),
+            y: self.y.opposite(),
+            z: self.z.opposite(),
+        }
     }
 }
